@@ -16,6 +16,9 @@ pub right-true : (a b : Bool) → (a && b) ≡ true → b ≡ true
 right-true true b h = h
 right-true false b h = absurd (false≢true h)
 
+pub both : (a b : Bool) → (a && b) ≡ true → (a ≡ true) × (b ≡ true)
+both a b h = (left-true a b h, right-true a b h)
+
 pub left-or : (a b : Bool) → a ≡ true → (a || b) ≡ true
 left-or true b h = refl
 left-or false b h = absurd (false≢true h)

@@ -11,9 +11,9 @@ use lib.Dec.{eqb, ltb}
 use lib.Bits.{or-zero-r}
 use lib.Pow.{pow-mono, pow-pos}
 use borrow.Author.Tests.{eq-eqb, ne-eqb, lt-ltb, le-ltb}
-use Rattle.sets.specs.Sets.{member, union, insert, any, count, setOf, unionOf}
-use Rattle.sets.proofs.Members.{member-empty, member-union, member-insert}
-use Rattle.sets.proofs.Width.{insert-lt, union-lt}
+use Rattle.sets.specs.Sets.{member, union, insert, with, any, count, setOf, unionOf}
+use Rattle.sets.proofs.Members.{member-empty, member-union, member-insert, member-with}
+use Rattle.sets.proofs.Width.{insert-lt, with-lt, union-lt, same-members}
 use Rattle.sets.proofs.Counting.{count-same}
 
 -- ---- the numbers that pass a test
@@ -50,6 +50,28 @@ member-set-of (suc k) j p = member-cond (p k) (setOf k p) k j ∙ ap (λ (b : Bo
 -- the members of the set are the numbers that pass
 pub count-set-of : (k : ℕ) (p : ℕ → Bool) → count k (member (setOf k p)) ≡ count k p
 count-set-of k p = count-same k (member (setOf k p)) p (λ i l. member-set-of k i p ∙ ap (λ (b : Bool). b && p i) (lt-ltb i k l))
+
+pub set-of-same : (k : ℕ) (p q : ℕ → Bool) → ((i : ℕ) → i < k → p i ≡ q i) → setOf k p ≡ setOf k q
+set-of-same k p q e =
+    same-members k (setOf k p) (setOf k q) (set-of-lt k p) (set-of-lt k q)
+    (λ i l. member-set-of k i p ∙ ap (λ (b : Bool). ltb i k && b) (e i l) ∙ sym (member-set-of k i q))
+
+pub set-of-none : (k : ℕ) (p : ℕ → Bool) → ((i : ℕ) → i < k → p i ≡ false) → 0 ≡ setOf k p
+set-of-none k p e =
+    same-members k 0 (setOf k p) (pow-pos k) (set-of-lt k p)
+    (λ i l. member-empty i ∙ sym (member-set-of k i p ∙ ap (λ (b : Bool). ltb i k && b) (e i l) ∙ and-false (ltb i k)))
+
+-- one number more passes
+pub set-of-with : (k x : ℕ) (p q : ℕ → Bool) → ((i : ℕ) → i < k → q i ≡ (p i || eqb x i)) → with k (setOf k p) x ≡ setOf k q
+set-of-with k x p q e =
+    same-members k (with k (setOf k p) x) (setOf k q) (with-lt k (setOf k p) x (set-of-lt k p)) (set-of-lt k q) each
+  where
+    below : (i : ℕ) → i < k → Dec (x ≡ i) → (ltb x k && eqb x i) ≡ eqb x i
+    below i l (yes s) = ap (λ (b : Bool). b && eqb x i) (lt-ltb x k (omega arith))
+    below i l (no n) = ap (λ (b : Bool). ltb x k && b) (ne-eqb x i n) ∙ and-false (ltb x k) ∙ sym (ne-eqb x i n)
+
+    each : (i : ℕ) → i < k → member (with k (setOf k p) x) i ≡ member (setOf k q) i
+    each i l = rw (member-with k (setOf k p) x i, member-set-of k i p, member-set-of k i q, below i l (ℕ-discrete x i), lt-ltb i k l, e i l)
 
 -- a turn of the loop that builds it
 set-of-next : (k : ℕ) (p : ℕ → Bool) → setOf (k + 1) p ≡ cond (p k) (insert (setOf k p) k) (setOf k p)

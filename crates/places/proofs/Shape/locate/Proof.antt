@@ -1,0 +1,85 @@
+-- `Shape::locate` meets its contract: each way out is a value of the three tests that the definition asks in the same order.
+-- Assumes nothing.
+use borrow.Author.Needs.{needs}
+use borrow.Author.Tests.{not-true, not-false}
+use mathlib.Core.Path.{_≡_, sym, _∙_}
+use mathlib.Core.Bool.{true, _&&_}
+use Rattle.places.specs.Places.{locate, insideOrOutside, shapeInRange, shapeSound, pointInRange}
+use Rattle.places.proofs.Shape.locate.Statement.{statement}
+use Rattle.places.proofs.Shape.locate.Tie as tie
+
+enum-known-position : tie.Need-enum-known-position
+enum-known-position c = search needs
+
+enum-told : tie.Need-enum-told
+enum-told c = search needs
+
+returns : tie.Need-returns
+unfolding locate
+returns c = simp (c .enum-told .given .1)
+
+in-range-requires : tie.Need-in-range-requires
+in-range-requires c κs = search needs
+
+is-sound-requires : tie.Need-is-sound-requires
+is-sound-requires c κs = search needs
+
+returns-2 : tie.Need-returns-2
+unfolding locate
+returns-2 c =
+    let refused = not-true (c .before .before .in-range .result && c .before .is-sound .result) (c .if1 .taken) in
+    simp (c .before .before .before .before .position .given .1, ← (c .before .before .in-range .ensures), ← (c .before .is-sound .ensures), refused)
+
+-- past the first test
+shape-accepted : (c : tie.Else1) →
+    let self = c .before .before .before .before .before .before .args .self in
+    shapeInRange self && shapeSound self ≡ true
+shape-accepted c =
+    rw (← (c .before .before .in-range .ensures), ← (c .before .is-sound .ensures))
+    (not-false (c .before .before .in-range .result && c .before .is-sound .result) (c .if1 .left))
+
+in-range-requires-2 : tie.Need-in-range-requires-2
+in-range-requires-2 c κs = search needs
+
+returns-3 : tie.Need-returns-3
+unfolding locate
+returns-3 c =
+    let off-grid = sym (c .before .in-range2 .ensures) ∙ not-true (c .before .in-range2 .result) (c .if2 .taken) in
+    simp (c .before .before .before .before .before .before .position .given .1, shape-accepted (c .before .before), off-grid)
+
+-- past the second test
+point-accepted : (c : tie.Else2) → pointInRange (c .before .before .before .before .before .before .position .given .0 .0) ≡ true
+point-accepted c = sym (c .before .in-range2 .ensures) ∙ not-false (c .before .in-range2 .result) (c .if2 .left)
+
+contains-requires : tie.Need-contains-requires
+contains-requires c κs = search needs
+
+-- past both tests
+decided : (c : tie.After-contains) →
+    let start = c .before .before .before .before .before .before .before .before .before in
+    locate (start .args .self) (start .args .position) ≡ insideOrOutside (c .contains .result)
+unfolding locate
+decided c =
+    simp (c .before .before .before .before .before .before .before .position .given .1, shape-accepted (c .before .before .before), point-accepted (c .before), c .contains .ensures)
+
+returns-4 : tie.Need-returns-4
+returns-4 c = simp (decided (c .before), c .if3 .taken)
+
+returns-5 : tie.Need-returns-5
+returns-5 c = simp (decided (c .before), c .if3 .left)
+
+pub locate-spec : {M : Type 1} → statement M
+locate-spec =
+    tie.close
+    (tie.spec
+    enum-known-position
+    enum-told
+    returns
+    in-range-requires
+    is-sound-requires
+    returns-2
+    in-range-requires-2
+    returns-3
+    contains-requires
+    returns-4
+    returns-5)

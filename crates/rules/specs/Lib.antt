@@ -1,0 +1,4 @@
+pub mod Breach
+pub mod Families
+pub mod Acceptance
+pub mod Edges
