@@ -7,7 +7,7 @@ use Prim.Native.Nat.{ℕ}
 use lib.Dec.{eqb}
 use borrow.Author.Tests.{eqb-true}
 use Rattle.sets.proofs.Booleans.{both}
-use Rattle.calendar.specs.Days.{dayOf, weekdayOf, leapYear, yearStart, commonStart, monthStart, monthEnd, isDayOfMonth, isDate, dayNumber, dayOfDate, lastStarted, yearOf, monthOf, dateIn, dateOf}
+use Rattle.calendar.specs.Days.{weekdayOf, leapYear, yearStart, commonStart, monthStart, monthEnd, isDayOfMonth, isDate, dayNumber, dayOfDate, lastStarted, yearOf, monthOf, dateIn, dateOf}
 use Rattle.calendar.specs.Terms.{fromTo, minuteFromTo, countedWeekday, atMoment, termInRange, termSound, termHolds}
 use Rattle.calendar.specs.declared.days.DayFound.{DayFound}
 use Rattle.calendar.specs.declared.days.DayFound.the-variants.{Day, NoDate}

@@ -1,7 +1,7 @@
--- A test of the first n rules of a list, as a loop over its slots meets them: one rule more passes, or one fails.
+-- A test of every rule of a list, and of its first n rules as a loop over its slots meets them: one rule more passes, or one fails.
 -- Assumes nothing.
 use mathlib.Core.Path.{_≡_, refl, sym, _∙_}
-use mathlib.Core.Bool.{Bool, true, false, false≢true}
+use mathlib.Core.Bool.{Bool, true, false, cond, false≢true}
 use mathlib.Core.List.{List, [], _∷_, map}
 use Prim.Native.Nat.{ℕ, zero, suc, _+_, _<_}
 use native.Mathlib.Numerals.{add-one}
@@ -12,7 +12,31 @@ use Rattle.rules.specs.Acceptance.{every, ruleOf}
 use Rattle.rules.specs.declared.families.Rule.{Rule}
 use Rattle.rules.specs.declared.lists.Slot.{Slot}
 
--- the first n rules pass a test
+-- ---- every rule
+
+-- a test that passes at a rule where a family of tests does passes at every rule where they do
+pub every-of : (D : Type 0) (tests : D → Rule → Bool) (test : Rule → Bool) → ((rule : Rule) → ((d : D) → tests d rule ≡ true) → test rule ≡ true) → (rules : List Rule) → ((d : D) → every (tests d) rules ≡ true) → every test rules ≡ true
+unfolding every
+every-of D tests test h [] e = refl
+every-of D tests test h (rule ∷ rules) e =
+    both-true (test rule) (every test rules)
+    (h rule (λ d. left-true (tests d rule) (every (tests d) rules) (e d)))
+    (every-of D tests test h rules (λ d. right-true (tests d rule) (every (tests d) rules) (e d)))
+
+-- one that passes where two do
+pub every-both : (a b test : Rule → Bool) → ((rule : Rule) → a rule ≡ true → b rule ≡ true → test rule ≡ true) → (rules : List Rule) → every a rules ≡ true → every b rules ≡ true → every test rules ≡ true
+every-both a b test h rules ha hb =
+    every-of Bool (λ first. cond first a b) test (λ rule e. h rule (e true) (e false)) rules each
+  where
+    each : (first : Bool) → every (cond first a b) rules ≡ true
+    each true = ha
+    each false = hb
+
+pub every-all : (test : Rule → Bool) → ((rule : Rule) → test rule ≡ true) → (rules : List Rule) → every test rules ≡ true
+every-all test h rules = every-of ⊥ (λ d rule. absurd d) test (λ rule e. h rule) rules (λ d. absurd d)
+
+-- ---- the first n rules
+
 abbrev pub everyFirst : (Rule → Bool) → ℕ → List Slot → Bool
 everyFirst p n slots = every p (map ruleOf (take n slots))
 

@@ -6,7 +6,7 @@ use mathlib.Core.Logic.{_↔_, ⊎-elim}
 use Prim.Native.Nat.{ℕ, zero, suc, _<_}
 use native.Mathlib.Nat.{le-refl, le-trans, le-suc, le-of-suc-le-suc, not-suc-le-zero, eq-or-lt-of-le}
 use Rattle.sets.specs.Sets.{all, any}
-use Rattle.sets.proofs.Booleans.{both-true, left-true, right-true, left-or, right-or}
+use Rattle.sets.proofs.Booleans.{clash, both-true, left-true, right-true, of-and-false, left-or, right-or}
 
 pub all-of : (k : ℕ) (p : ℕ → Bool) → ((i : ℕ) → i < k → p i ≡ true) → all k p ≡ true
 unfolding all
@@ -20,6 +20,13 @@ of-all (suc k) p h i l =
     ⊎-elim
     (λ e. ap p e ∙ right-true (all k p) (p k) h)
     (λ m. of-all k p (left-true (all k p) (p k) h) i m) (eq-or-lt-of-le (le-of-suc-le-suc l))
+
+-- where not all numbers below k pass, one fails
+pub of-all-false : (k : ℕ) (p : ℕ → Bool) → all k p ≡ false → (i : ℕ) × (i < k) × (p i ≡ false)
+unfolding all
+of-all-false zero p h = clash refl h
+of-all-false (suc k) p h =
+    ⊎-elim (λ e. let t = of-all-false k p e in (t .0, le-trans (t .1) (le-suc k), t .2)) (λ e. (k, le-refl (suc k), e)) (of-and-false (all k p) (p k) h)
 
 -- all k p: each number below k passes
 pub all-means : (k : ℕ) (p : ℕ → Bool) → (all k p ≡ true) ↔ ((i : ℕ) → i < k → p i ≡ true)

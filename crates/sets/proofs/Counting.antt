@@ -10,9 +10,9 @@ use native.Mathlib.Numerals.{add-one}
 use lib.Dec.{eqb}
 use lib.Arith.{lt-one}
 use lib.Count.{ones, ones-step}
-use borrow.Author.Tests.{eq-eqb, ne-eqb}
+use borrow.Author.Tests.{eq-eqb, ne-eqb, eqb-true}
 use Rattle.sets.specs.Sets.{member, union, with, subset, oneIf, count}
-use Rattle.sets.proofs.Booleans.{not-so}
+use Rattle.sets.proofs.Booleans.{not-so, of-or}
 use Rattle.sets.proofs.Members.{two-positive, member-low, member-high, member-union, member-insert, with-below}
 use Rattle.sets.proofs.Width.{half-lt, subset-means}
 
@@ -64,6 +64,17 @@ count-more (suc k) i p l e = ⊎-elim here (λ m. there m (count-more k i p m e)
     there m ih =
         let at : (p k || eqb i k) ≡ p k = ap (λ (b : Bool). p k || b) (ne-eqb i k (λ r. omega arith)) ∙ or-false (p k) in
         rw (ih, at) (omega arith)
+
+-- where all that pass p pass q, and no more pass q than p, all that pass q pass p
+pub count-whole : (k : ℕ) (p q : ℕ → Bool) → ((i : ℕ) → p i ≡ true → q i ≡ true) → count k q ≤ count k p → (i : ℕ) → i < k → q i ≡ true → p i ≡ true
+count-whole k p q e h i l t = go (p i) refl
+  where
+    within : (j : ℕ) → (p j || eqb i j) ≡ true → q j ≡ true
+    within j o = ⊎-elim (e j) (λ s. ap q (sym (eqb-true i j s)) ∙ t) (of-or (p j) (eqb i j) o)
+
+    go : (b : Bool) → p i ≡ b → p i ≡ true
+    go true s = s
+    go false s = absurd (omega (arith, count-more k i p l s, count-mono k (λ j. p j || eqb i j) q (λ j m. within j)))
 
 -- ---- none, and at most one
 

@@ -8,13 +8,13 @@ use native.Mathlib.Nat.{mod-lt, zero-lt-suc, div-add-mod', lt-of-lt-of-le, lt-of
 use native.Mathlib.Omega.{arith}
 use native.Mathlib.Numerals.{add-one}
 use lib.Dec.{eqb, ltb}
-use lib.Bits.{bitAnd, bitOr, bitXor, or-lt, xor-lt, and-le-l}
+use lib.Bits.{bitAnd, bitOr, bitXor, or-lt, xor-lt, and-le-l, and-comm}
 use lib.Arith.{lt-one}
 use lib.Pow.{pow-pos, pow-mono, pow-lt, shr-lt}
 use borrow.Author.Tests.{eq-eqb, ne-eqb, le-ltb, eqb-true, ltb-true}
-use Rattle.sets.specs.Sets.{member, union, intersection, difference, single, insert, with, without, subset, isEmpty, all}
-use Rattle.sets.proofs.Booleans.{both-true, left-true, right-true, same-test, not-both, not-so}
-use Rattle.sets.proofs.Bounded.{all-of, of-all}
+use Rattle.sets.specs.Sets.{member, union, intersection, difference, single, insert, with, without, subset, isEmpty, all, any}
+use Rattle.sets.proofs.Booleans.{clash, both-true, left-true, right-true, same-test, not-both, not-so}
+use Rattle.sets.proofs.Bounded.{all-of, of-all, any-of, of-any}
 use Rattle.sets.proofs.Members.{two-positive, member-low, member-high, member-empty, member-intersection, member-without, with-below}
 
 pub half-lt : {n : ℕ} (k : ℕ) → n < 2 ^ suc k → n / 2 < 2 ^ k
@@ -49,8 +49,25 @@ same-members (suc k) a b ha hb e =
     digit-eq (a % 2) (b % 2) (mod-lt a two-positive) (mod-lt b two-positive) (sym (member-low a) ∙ e 0 (zero-lt-suc k) ∙ member-low b) in
     sym (div-add-mod' a 2) ∙ ap₂ (λ (x y : ℕ). x * 2 + y) high low ∙ div-add-mod' b 2
 
+below-power : (n : ℕ) → n < 2 ^ n
+below-power zero = zero-lt-suc 0
+below-power (suc n) = let h = below-power n in let p = pow-suc 2 n in omega arith
+
+-- two sets with the same members are one, at any width
+pub equal-sets : (a b : ℕ) → ((i : ℕ) → member a i ≡ member b i) → a ≡ b
+equal-sets a b e =
+    same-members (a + b) a b (lt-of-lt-of-le (below-power a) (pow-mono (omega arith))) (lt-of-lt-of-le (below-power b) (pow-mono (omega arith))) (λ i l. e i)
+
 pub empty-of : (k n : ℕ) → n < 2 ^ k → ((i : ℕ) → i < k → member n i ≡ false) → n ≡ 0
 empty-of k n h e = same-members k n 0 h (pow-pos k) (λ i l. e i l ∙ sym (member-empty i))
+
+-- a set other than the empty one has a member
+pub some-member : (n : ℕ) → (n ≡ 0 → ⊥) → (i : ℕ) × (member n i ≡ true)
+some-member n filled = go (any n (member n)) refl
+  where
+    go : (b : Bool) → any n (member n) ≡ b → (i : ℕ) × (member n i ≡ true)
+    go true e = let t = of-any n (member n) e in (t .0, t .2)
+    go false e = absurd (filled (empty-of n n (below-power n) (λ i low. not-so (member n i) (λ m. clash (any-of n i (member n) low m) e))))
 
 -- ---- what each operation gives fits the width
 
@@ -121,15 +138,15 @@ subset-means a b = (to, from)
     to e i h =
         right-true (member a i) (member b i) (sym (member-intersection a b i) ∙ ap (λ (x : ℕ). member x i) (eqb-true (bitAnd a b) a e) ∙ h)
 
-    small : (n : ℕ) → n < 2 ^ n
-    small zero = zero-lt-suc 0
-    small (suc n) = let h = small n in let p = pow-suc 2 n in omega arith
-
     from : ((i : ℕ) → member a i ≡ true → member b i ≡ true) → subset a b ≡ true
     from f =
         eq-eqb (bitAnd a b) a
-        (same-members a (bitAnd a b) a (intersection-lt a a b (small a)) (small a)
+        (same-members a (bitAnd a b) a (intersection-lt a a b (below-power a)) (below-power a)
         (λ i l. member-intersection a b i ∙ same-test (member a i && member b i) (member a i) (left-true (member a i) (member b i)) (λ h. both-true (member a i) (member b i) h (f i h))))
+
+-- a set within one of numbers below k is of numbers below k
+pub within-lt : (k a b : ℕ) → b < 2 ^ k → ((i : ℕ) → member a i ≡ true → member b i ≡ true) → a < 2 ^ k
+within-lt k a b h within = rw (← eqb-true (intersection a b) a (subset-means a b .1 within), and-comm a b) (intersection-lt k b a h)
 
 -- no number is in both sets where their intersection is empty
 pub disjoint-all : (k a b : ℕ) → a < 2 ^ k → isEmpty (intersection a b) ≡ all k (λ i. not (member a i && member b i))

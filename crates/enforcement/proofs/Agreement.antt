@@ -1,0 +1,313 @@
+-- Demand 3: over every list of steps from a fresh state our gate gives what the plain gate gives; all rules hold after every step; and
+-- what an event leaves is the largest part. From any state that 40 does not refuse, the same with the selected rules alone.
+-- Assumes nothing.
+use mathlib.Core.Path.{_≡_, refl, sym, ap, ap₂, _∙_, subst}
+use mathlib.Core.Bool.{Bool, true, false, not, cond, _&&_, _||_, true≢false, and-not-self}
+use mathlib.Core.Logic.{_↔_}
+use mathlib.Core.List.{List, [], _∷_}
+use Prim.Native.Nat.{ℕ, suc, _+_}
+use native.Mathlib.Omega.{arith}
+use Rattle.sets.specs.Sets.{member, difference}
+use Rattle.sets.proofs.Members.{member-difference}
+use Rattle.sets.proofs.Counting.{count-none}
+use Rattle.sets.proofs.Booleans.{both, right-or}
+use Rattle.rules.specs.Acceptance.{every, rulesOf, listAccepted}
+use Rattle.rules.proofs.Every.{every-both, every-all}
+use Rattle.rules.specs.declared.families.Rule.{Rule}
+use Rattle.rules.specs.declared.lists.RuleList.{RuleList}
+use Rattle.enforcement.specs.States.{fresh, ruleHolds}
+use Rattle.enforcement.specs.Steps.{actionOf, Checked, passes, refuses, check, target, withActive, isEvent}
+use Rattle.enforcement.specs.Decisions.{Lowest, unbroken, broken, lowest, endedPairs, pairCount, Part, Largest, granted, refused, Verdict}
+use Rattle.enforcement.specs.Plain.{obeys, lowestBroken, verdict, Plain, refusing, breaking, taking, ending, PlainRun, done, next, plainRequest, plainPassed, plainChecked, plainStep, plainRun}
+use Rattle.enforcement.specs.Selection.{selects}
+use Rattle.enforcement.specs.Gate.{testsSelected, remaining, grantedNext, requestNext, passedNext, checkedNext, decide, stepOf, runOf, compared, comparedRun, decisionOf}
+use Rattle.enforcement.specs.Narrow as narrow
+use Rattle.enforcement.specs.Reached.{Typed, Accepted}
+use Rattle.enforcement.specs.declared.states.State.{State}
+use Rattle.enforcement.specs.declared.steps.Step.{Step}
+use Rattle.enforcement.specs.declared.steps.Action.{Action}
+use Rattle.enforcement.specs.declared.steps.Next.{Next}
+use Rattle.enforcement.proofs.Ranges.{Ranged, action-ranged}
+use Rattle.enforcement.proofs.Frame.{frame, frame-part}
+use Rattle.enforcement.proofs.Ending.{largest-unique, remaining-largest}
+use Rattle.enforcement.proofs.Parts.{largest-found}
+use Rattle.enforcement.proofs.Kept.{accepted-target, accepted-part, fresh-accepted, fresh-obeys}
+
+-- ---- tests over a list of rules
+
+-- tests that agree on every rule find the same lowest broken one
+lowest-same : (given p q : Rule → Bool) → ((rule : Rule) → given rule ≡ true → p rule ≡ q rule) → (n : ℕ) (rules : List Rule) → every given rules ≡ true → lowest p n rules ≡ lowest q n rules
+unfolding every lowest
+lowest-same given p q f n [] e = refl
+lowest-same given p q f n (rule ∷ rules) e =
+    let x = both (given rule) (every given rules) e in
+    ap₂ (λ (b : Bool) (rest : Lowest). cond b rest (broken n)) (f rule (x .0)) (lowest-same given p q f (suc n) rules (x .1))
+
+lowest-none : (test : Rule → Bool) (n : ℕ) (rules : List Rule) → lowest test n rules ≡ unbroken → every test rules ≡ true
+unfolding every lowest
+lowest-none test n [] e = refl
+lowest-none test n (rule ∷ rules) e = go (test rule) e (lowest-none test (suc n) rules)
+  where
+    go : (b : Bool) → cond b (lowest test (suc n) rules) (broken n) ≡ unbroken → (lowest test (suc n) rules ≡ unbroken → every test rules ≡ true) → (b && every test rules) ≡ true
+    go true h f = f h
+    go false h f = cc
+
+-- ---- a refused step ends no pair
+
+none-ended : (l : List ℕ) → pairCount (endedPairs l l) ≡ 0
+unfolding endedPairs pairCount
+none-ended [] = refl
+none-ended (roles ∷ rest) =
+    ap₂ _+_ (count-none 32 (member (difference roles roles)) (λ r h. member-difference roles roles r ∙ and-not-self (member roles r))) (none-ended rest)
+
+-- what is compared of a refusal
+abbrev refusal : State → ℕ → ℕ → Verdict
+refusal s number rule = record { decision = refused number; rule = rule; ended = endedPairs (s .active) (s .active); endedNumber = 0; state = s }
+
+refusal-verdict : (s : State) (number rule : ℕ) → verdict s (refused number) rule s ≡ refusal s number rule
+refusal-verdict s number rule =
+    ap (λ (n : ℕ). record { decision = refused number; rule = rule; ended = endedPairs (s .active) (s .active); endedNumber = n; state = s }) (none-ended (s .active))
+
+-- ---- one step from a state that 40 does not refuse and that obeys the rules
+
+module _ (rules : List Rule) (s : State) (accepted : Accepted s) (obeyed : obeys rules s ≡ true) (action : Action) (ranged : Ranged action) (pass : check s action ≡ passes) where
+  unselected-holds : (rule : Rule) → ruleHolds rule s ≡ true → selects action rule ≡ false → ruleHolds rule (target s action) ≡ true
+  unselected-holds rule h e = frame action rule s accepted ranged pass e h
+
+  same-test : (rule : Rule) → ruleHolds rule s ≡ true → testsSelected (selects action) (target s action) rule ≡ ruleHolds rule (target s action)
+  same-test rule b = go (selects action rule) refl
+    where
+      go : (selected : Bool) → selects action rule ≡ selected → (not selected || ruleHolds rule (target s action)) ≡ ruleHolds rule (target s action)
+      go true e = refl
+      go false e = sym (unselected-holds rule b e)
+
+  same-lowest : lowest (testsSelected (selects action) (target s action)) 1 rules ≡ lowestBroken rules (target s action)
+  same-lowest = lowest-same (λ rule. ruleHolds rule s) (testsSelected (selects action) (target s action)) (λ rule. ruleHolds rule (target s action)) same-test 1 rules obeyed
+
+  module _ (event : isEvent action ≡ true) where
+    -- under a part of the target's pairs all rules hold exactly where the selected ones do
+    from-selected : (l : List ℕ) → Part l (target s action .active) → every (testsSelected (selects action) (withActive (target s action) l)) rules ≡ true → obeys rules (withActive (target s action) l) ≡ true
+    from-selected l part =
+        every-both (λ rule. ruleHolds rule s) (testsSelected (selects action) (withActive (target s action) l)) (λ rule. ruleHolds rule (withActive (target s action) l))
+        (λ rule b h. go rule b (selects action rule) refl h) rules obeyed
+      where
+        go : (rule : Rule) → ruleHolds rule s ≡ true → (selected : Bool) → selects action rule ≡ selected → (not selected || ruleHolds rule (withActive (target s action) l)) ≡ true → ruleHolds rule (withActive (target s action) l) ≡ true
+        go rule b true e h = h
+        go rule b false e h = frame-part action rule (target s action) l event e part (unselected-holds rule b e)
+
+    to-selected : (l : List ℕ) → obeys rules (withActive (target s action) l) ≡ true → every (testsSelected (selects action) (withActive (target s action) l)) rules ≡ true
+    to-selected l =
+        every-both (λ rule. ruleHolds rule s) (λ rule. ruleHolds rule (withActive (target s action) l)) (testsSelected (selects action) (withActive (target s action) l))
+        (λ rule b h. right-or (not (selects action rule)) (ruleHolds rule (withActive (target s action) l)) h) rules obeyed
+
+    -- what is left is the largest part under which all rules hold
+    remaining-obeys : Largest (obeys rules) (target s action) (remaining (selects action) rules (target s action))
+    remaining-obeys =
+        let kept = remaining-largest action event rules (target s action) (accepted-target action s accepted ranged pass .typed) in
+        record {
+          isPart = kept .isPart;
+          holding = from-selected (remaining (selects action) rules (target s action)) (kept .isPart) (kept .holding);
+          largest = λ m part h. kept .largest m part (to-selected m h);
+        }
+
+  by-lowest : isEvent action ≡ false → (low : Lowest) → lowestBroken rules (target s action) ≡ low → (n : ℕ) → Plain rules s action (compared s (requestNext n s (target s action) low))
+  unfolding requestNext
+  by-lowest event unbroken e n = taking pass event e
+  by-lowest event (broken rule) e n = subst (Plain rules s action) (refusal-verdict s 30 rule) (breaking rule pass event e)
+
+  by-event : (event : Bool) → isEvent action ≡ event → Plain rules s action (compared s (passedNext event rules s action))
+  unfolding passedNext
+  by-event true e = ending (remaining (selects action) rules (target s action)) pass e (remaining-obeys e)
+  by-event false e = by-lowest e (lowest (testsSelected (selects action) (target s action)) 1 rules) (sym same-lowest) _
+
+module _ (rules : List Rule) (s : State) (accepted : Accepted s) (obeyed : obeys rules s ≡ true) (action : Action) (ranged : Ranged action) where
+  by-check : (checked : Checked) → check s action ≡ checked → Plain rules s action (compared s (checkedNext checked rules s action))
+  unfolding checkedNext
+  by-check passes e = by-event rules s accepted obeyed action ranged e (isEvent action) refl
+  by-check (refuses number) e = subst (Plain rules s action) (refusal-verdict s number 0) (refusing number e)
+
+  -- what our gate gives is what the plain gate gives
+  step-is-plain : Plain rules s action (compared s (decide rules s action))
+  unfolding decide
+  step-is-plain = by-check (check s action) refl
+
+-- ---- the plain gate gives one verdict, and its function finds it
+
+module _ (rules : List Rule) (s : State) (action : Action) where
+  plain-function : (v : Verdict) → (check s action ≡ passes → Typed (target s action)) → Plain rules s action v → plainStep rules s action ≡ v
+  unfolding plainStep plainChecked plainPassed plainRequest
+  plain-function v typed (refusing number e) = ap (λ (c : Checked). plainChecked c rules s action) e
+  plain-function v typed (breaking rule e event low) =
+      ap (λ (c : Checked). plainChecked c rules s action) e
+      ∙ ap (λ (b : Bool). plainPassed b rules s (target s action)) event
+      ∙ ap (plainRequest s (target s action)) low
+  plain-function v typed (taking e event low) =
+      ap (λ (c : Checked). plainChecked c rules s action) e
+      ∙ ap (λ (b : Bool). plainPassed b rules s (target s action)) event
+      ∙ ap (plainRequest s (target s action)) low
+  plain-function v typed (ending l e event largest) =
+      ap (λ (c : Checked). plainChecked c rules s action) e
+      ∙ ap (λ (b : Bool). plainPassed b rules s (target s action)) event
+      ∙ ap (λ (m : List ℕ). verdict s granted 0 (withActive (target s action) m)) (largest-found (obeys rules) (target s action) l (typed e) largest)
+
+-- ---- what the plain gate leaves is not refused by 40 and obeys the rules
+
+plain-keeps : (rules : List Rule) (s : State) (action : Action) (v : Verdict) → Accepted s → Ranged action → obeys rules s ≡ true → Plain rules s action v → Accepted (v .state) × (obeys rules (v .state) ≡ true)
+plain-keeps rules s action v accepted ranged obeyed (refusing number e) = (accepted, obeyed)
+plain-keeps rules s action v accepted ranged obeyed (breaking rule e event low) = (accepted, obeyed)
+plain-keeps rules s action v accepted ranged obeyed (taking e event low) =
+    (accepted-target action s accepted ranged e, lowest-none (λ rule. ruleHolds rule (target s action)) 1 rules low)
+plain-keeps rules s action v accepted ranged obeyed (ending l e event largest) =
+    (accepted-part (target s action) l (accepted-target action s accepted ranged e) (largest .isPart), largest .holding)
+
+-- ---- a whole list of steps
+
+-- a statement of the state before each step, the step and what it gave
+pub data Along (Says : State → Step → Next → Type 0) : State → List Step → List Next → Type 0 where
+  end : {s : State} → Along Says s [] []
+  then : {s : State} {step : Step} {steps : List Step} {given : Next} {rest : List Next} → Says s step given → Along Says (given .state) steps rest → Along Says s (step ∷ steps) (given ∷ rest)
+
+-- after a granted event the active pairs are the largest part of the target's under which every rule holds
+abbrev pub LeavesLargest : List Rule → State → Step → Next → Type 0
+LeavesLargest rules s step given =
+    isEvent (actionOf step) ≡ true → decisionOf (given .answer) ≡ granted → Largest (obeys rules) (target s (actionOf step)) (given .state .active)
+
+module _ (list : RuleList) (listed : listAccepted list ≡ true) where
+  -- an accepted state is not refused by 40, so the step is decided
+  decided : (s : State) → Accepted s → (step : Step) → stepOf list s step ≡ decide (rulesOf list) s (actionOf step)
+  unfolding stepOf
+  decided s accepted step = rw (listed, accepted .unrefused)
+
+  step-plain : (s : State) → Accepted s → obeys (rulesOf list) s ≡ true → (step : Step) → Plain (rulesOf list) s (actionOf step) (compared s (stepOf list s step))
+  step-plain s accepted obeyed step =
+      rw (decided s accepted step) (step-is-plain (rulesOf list) s accepted obeyed (actionOf step) (action-ranged step))
+
+  pub step-keeps : (s : State) → Accepted s → obeys (rulesOf list) s ≡ true → (step : Step) → Accepted (stepOf list s step .state) × (obeys (rulesOf list) (stepOf list s step .state) ≡ true)
+  step-keeps s accepted obeyed step =
+      plain-keeps (rulesOf list) s (actionOf step) (compared s (stepOf list s step)) accepted (action-ranged step) obeyed (step-plain s accepted obeyed step)
+
+  step-function : (s : State) → Accepted s → obeys (rulesOf list) s ≡ true → (step : Step) (v : Verdict) → Plain (rulesOf list) s (actionOf step) v → plainStep (rulesOf list) s (actionOf step) ≡ v
+  step-function s accepted obeyed step v =
+      plain-function (rulesOf list) s (actionOf step) v (λ pass. accepted-target (actionOf step) s accepted (action-ranged step) pass .typed)
+
+  -- the relation has our run
+  run-is-plain : (steps : List Step) (s : State) → Accepted s → obeys (rulesOf list) s ≡ true → PlainRun (rulesOf list) s steps (comparedRun s (runOf list s steps))
+  unfolding runOf comparedRun
+  run-is-plain [] s accepted obeyed = done
+  run-is-plain (step ∷ steps) s accepted obeyed =
+      let kept = step-keeps s accepted obeyed step in
+      next (step-plain s accepted obeyed step) (run-is-plain steps (stepOf list s step .state) (kept .0) (kept .1))
+
+  -- and so has the function
+  function-is-run : (steps : List Step) (s : State) → Accepted s → obeys (rulesOf list) s ≡ true → plainRun (rulesOf list) s steps ≡ comparedRun s (runOf list s steps)
+  unfolding plainRun runOf comparedRun
+  function-is-run [] s accepted obeyed = refl
+  function-is-run (step ∷ steps) s accepted obeyed =
+      let here = step-function s accepted obeyed step (compared s (stepOf list s step)) (step-plain s accepted obeyed step) in
+      let kept = step-keeps s accepted obeyed step in
+      ap₂ _∷_ here (ap (λ (v : Verdict). plainRun (rulesOf list) (v .state) steps) here ∙ function-is-run steps (stepOf list s step .state) (kept .0) (kept .1))
+
+  -- and the relation has no other
+  plain-is-function : (steps : List Step) (s : State) (verdicts : List Verdict) → Accepted s → obeys (rulesOf list) s ≡ true → PlainRun (rulesOf list) s steps verdicts → plainRun (rulesOf list) s steps ≡ verdicts
+  unfolding plainRun
+  plain-is-function [] s verdicts accepted obeyed done = refl
+  plain-is-function (step ∷ steps) s verdicts accepted obeyed (next {v = v} {verdicts = rest} here later) =
+      let same = step-function s accepted obeyed step v here in
+      let kept = plain-keeps (rulesOf list) s (actionOf step) v accepted (action-ranged step) obeyed here in
+      ap₂ _∷_ same (ap (λ (w : Verdict). plainRun (rulesOf list) (w .state) steps) same ∙ plain-is-function steps (v .state) rest (kept .0) (kept .1) later)
+
+  obeying : (steps : List Step) (s : State) → Accepted s → obeys (rulesOf list) s ≡ true → Along (λ s step given. obeys (rulesOf list) (given .state) ≡ true) s steps (runOf list s steps)
+  unfolding runOf
+  obeying [] s accepted obeyed = end
+  obeying (step ∷ steps) s accepted obeyed =
+      let kept = step-keeps s accepted obeyed step in
+      then (kept .1) (obeying steps (stepOf list s step .state) (kept .0) (kept .1))
+
+  -- a granted event was decided by the largest part
+  leaves-largest : (s : State) (step : Step) (v : Verdict) → Plain (rulesOf list) s (actionOf step) v → isEvent (actionOf step) ≡ true → v .decision ≡ granted → Largest (obeys (rulesOf list)) (target s (actionOf step)) (v .state .active)
+  leaves-largest s step v (refusing number e) event grants = absurd (let clash : _≡_ {A = ℕ} 0 1 = cc in omega arith)
+  leaves-largest s step v (breaking rule e request low) event grants = absurd (true≢false (sym event ∙ request))
+  leaves-largest s step v (taking e request low) event grants = absurd (true≢false (sym event ∙ request))
+  leaves-largest s step v (ending l e ev largest) event grants = largest
+
+  leaving : (steps : List Step) (s : State) → Accepted s → obeys (rulesOf list) s ≡ true → Along (LeavesLargest (rulesOf list)) s steps (runOf list s steps)
+  unfolding runOf
+  leaving [] s accepted obeyed = end
+  leaving (step ∷ steps) s accepted obeyed =
+      let kept = step-keeps s accepted obeyed step in
+      then (leaves-largest s step (compared s (stepOf list s step)) (step-plain s accepted obeyed step)) (leaving steps (stepOf list s step .state) (kept .0) (kept .1))
+
+pub all-hold-fresh : (rules : List Rule) → obeys rules fresh ≡ true
+all-hold-fresh rules = every-all (λ rule. ruleHolds rule fresh) fresh-obeys rules
+
+-- ---- demand 3
+
+module _ (list : RuleList) (listed : listAccepted list ≡ true) (steps : List Step) where
+  -- "over every list of steps from a fresh state, it gives at every step the same decision, lowest broken rule, ended roles and state as
+  -- the plain gate, which tests every rule over the whole state"
+  pub agreement : plainRun (rulesOf list) fresh steps ≡ comparedRun fresh (runOf list fresh steps)
+  agreement = function-is-run list listed steps fresh fresh-accepted (all-hold-fresh (rulesOf list))
+
+  -- the same of the plain gate as a relation: our run is one of its runs
+  pub agreement-relation : PlainRun (rulesOf list) fresh steps (comparedRun fresh (runOf list fresh steps))
+  agreement-relation = run-is-plain list listed steps fresh fresh-accepted (all-hold-fresh (rulesOf list))
+
+  -- and it has no other
+  pub agreement-only : (verdicts : List Verdict) → PlainRun (rulesOf list) fresh steps verdicts → verdicts ≡ comparedRun fresh (runOf list fresh steps)
+  agreement-only verdicts plain =
+      sym (plain-is-function list listed steps fresh verdicts fresh-accepted (all-hold-fresh (rulesOf list)) plain) ∙ agreement
+
+  -- "All rules hold after every step."
+  pub rules-hold : Along (λ s step given. obeys (rulesOf list) (given .state) ≡ true) fresh steps (runOf list fresh steps)
+  rules-hold = obeying list listed steps fresh fresh-accepted (all-hold-fresh (rulesOf list))
+
+  -- "After an event the roles still active are the largest part under which all rules hold."
+  pub largest-part : Along (LeavesLargest (rulesOf list)) fresh steps (runOf list fresh steps)
+  largest-part = leaving list listed steps fresh fresh-accepted (all-hold-fresh (rulesOf list))
+
+-- ---- any state that 40 does not refuse, also one that breaks rules
+
+module _ (rules : List Rule) (s : State) (accepted : Accepted s) (action : Action) (ranged : Ranged action) where
+  remaining-selected : check s action ≡ passes → isEvent action ≡ true → Largest (narrow.obeysSelected rules action) (target s action) (remaining (selects action) rules (target s action))
+  remaining-selected pass event = remaining-largest action event rules (target s action) (accepted-target action s accepted ranged pass .typed)
+
+  narrow-by-lowest : check s action ≡ passes → isEvent action ≡ false → (low : Lowest) → narrow.lowestSelected rules action (target s action) ≡ low → narrow.Narrow rules s action (requestNext (narrow.numberOf rules action) s (target s action) low)
+  unfolding requestNext
+  narrow-by-lowest pass event unbroken e = narrow.taking pass event e
+  narrow-by-lowest pass event (broken rule) e = narrow.breaking rule pass event e
+
+  narrow-by-event : check s action ≡ passes → (event : Bool) → isEvent action ≡ event → narrow.Narrow rules s action (passedNext event rules s action)
+  unfolding passedNext
+  narrow-by-event pass true e = narrow.ending (remaining (selects action) rules (target s action)) pass e (remaining-selected pass e)
+  narrow-by-event pass false e = narrow-by-lowest pass e (narrow.lowestSelected rules action (target s action)) refl
+
+  narrow-by-check : (checked : Checked) → check s action ≡ checked → narrow.Narrow rules s action (checkedNext checked rules s action)
+  unfolding checkedNext
+  narrow-by-check passes e = narrow-by-event e (isEvent action) refl
+  narrow-by-check (refuses number) e = narrow.refusing number e
+
+  pub step-narrow : narrow.Narrow rules s action (decide rules s action)
+  unfolding decide
+  step-narrow = narrow-by-check (check s action) refl
+
+  narrow-step : (given : Next) → narrow.Narrow rules s action given → given ≡ decide rules s action
+  unfolding decide checkedNext passedNext requestNext
+  narrow-step given (narrow.refusing number e) = sym (ap (λ (c : Checked). checkedNext c rules s action) e)
+  narrow-step given (narrow.breaking rule e event low) =
+      sym (ap (λ (c : Checked). checkedNext c rules s action) e
+      ∙ ap (λ (b : Bool). passedNext b rules s action) event
+      ∙ ap (requestNext (narrow.numberOf rules action) s (target s action)) low)
+  narrow-step given (narrow.taking e event low) =
+      sym (ap (λ (c : Checked). checkedNext c rules s action) e
+      ∙ ap (λ (b : Bool). passedNext b rules s action) event
+      ∙ ap (requestNext (narrow.numberOf rules action) s (target s action)) low)
+  narrow-step given (narrow.ending l e event largest) =
+      ap (λ (m : List ℕ). grantedNext (narrow.numberOf rules action) s (withActive (target s action) m)) (largest-unique largest (remaining-selected e event))
+      ∙ sym (ap (λ (c : Checked). checkedNext c rules s action) e ∙ ap (λ (b : Bool). passedNext b rules s action) event)
+
+-- from a state that 40 does not refuse, a step gives what document 01 says with the selected rules alone, and nothing else
+pub selected-only : (list : RuleList) → listAccepted list ≡ true → (s : State) → Accepted s → (step : Step) (given : Next) → (given ≡ stepOf list s step) ↔ narrow.Narrow (rulesOf list) s (actionOf step) given
+selected-only list listed s accepted step given = (
+  λ e. subst (narrow.Narrow (rulesOf list) s (actionOf step)) (sym (e ∙ decided list listed s accepted step)) (step-narrow (rulesOf list) s accepted (actionOf step) (action-ranged step)),
+  λ h. narrow-step (rulesOf list) s accepted (actionOf step) (action-ranged step) given h ∙ sym (decided list listed s accepted step),
+)

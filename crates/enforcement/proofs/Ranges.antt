@@ -1,0 +1,69 @@
+-- A step that is read has its numbers in range.
+-- Assumes nothing.
+use mathlib.Core.Path.{_≡_, refl}
+use mathlib.Core.Bool.{Bool, true, false, cond, _&&_}
+use Prim.Native.Nat.{ℕ, _≤_, _<_}
+use lib.Dec.{eqb, ltb}
+use borrow.Author.Tests.{ltb-true, leb-true}
+use Rattle.sets.proofs.Booleans.{both}
+use Rattle.places.specs.Places.{onGrid, pointInRange}
+use Rattle.enforcement.specs.Steps.{ranged, actionOf}
+use Rattle.enforcement.specs.declared.steps.Step.{Step}
+use Rattle.enforcement.specs.declared.steps.Action.{Action}
+use Rattle.enforcement.specs.declared.steps.Action.the-variants.{Malformed, Assign, Withdraw, Grant, Take, Open, Activate, Deactivate, Access, Finish, Close, Move, Lost, Clock}
+
+-- each number is in the range that document 01 gives it
+abbrev pub Ranged : Action → Type 0
+Ranged Malformed = Unit {0}
+Ranged (Assign u r) = (u < 64) × (r < 32)
+Ranged (Withdraw u r) = (u < 64) × (r < 32)
+Ranged (Grant r p) = (r < 32) × (p < 32)
+Ranged (Take r p) = (r < 32) × (p < 32)
+Ranged (Open i u) = (i < 32) × (u < 64)
+Ranged (Activate i r) = (i < 32) × (r < 32)
+Ranged (Deactivate i r) = (i < 32) × (r < 32)
+Ranged (Access i p o) = (i < 32) × (p < 32) × (o < 32)
+Ranged (Finish o) = o < 32
+Ranged (Close i) = i < 32
+Ranged (Move i point) = (i < 32) × (pointInRange point ≡ true)
+Ranged (Lost i) = i < 32
+Ranged (Clock t) = t ≤ 3155759999
+
+module _ (step : Step) where
+  -- a step of one kind is in range where the kind's test says so, one of another where what is read of it is
+  of-kind : (kind : ℕ) (test : Bool) (action other : Action) → (test ≡ true → Ranged action) → Ranged other → Ranged (cond (eqb (step .kind) kind) (ranged test action) other)
+  of-kind kind test action other numbers rest = go (eqb (step .kind) kind) test numbers
+    where
+      go : (b c : Bool) → (c ≡ true → Ranged action) → Ranged (cond b (ranged c action) other)
+      go true true numbers = numbers refl
+      go true false numbers = tt
+      go false c numbers = rest
+
+  first-and : (k : ℕ) (test : Bool) → (ltb (step .first) k && test) ≡ true → (step .first < k) × (test ≡ true)
+  first-and k test h = let t = both (ltb (step .first) k) test h in (ltb-true (step .first) k (t .0), t .1)
+
+  first-two : (k l : ℕ) → (ltb (step .first) k && ltb (step .second) l) ≡ true → (step .first < k) × (step .second < l)
+  first-two k l h = let t = first-and k (ltb (step .second) l) h in (t .0, ltb-true (step .second) l (t .1))
+
+  all-three : (ltb (step .first) 32 && (ltb (step .second) 32 && ltb (step .third) 32)) ≡ true → (step .first < 32) × (step .second < 32) × (step .third < 32)
+  all-three h =
+      let t = first-and 32 (ltb (step .second) 32 && ltb (step .third) 32) h in
+      let others = both (ltb (step .second) 32) (ltb (step .third) 32) (t .1) in
+      (t .0, ltb-true (step .second) 32 (others .0), ltb-true (step .third) 32 (others .1))
+
+pub action-ranged : (step : Step) → Ranged (actionOf step)
+unfolding actionOf pointInRange
+action-ranged step =
+    of-kind step 0 _ _ _ (first-two step 64 32)
+    (of-kind step 1 _ _ _ (first-two step 64 32)
+    (of-kind step 2 _ _ _ (first-two step 32 32)
+    (of-kind step 3 _ _ _ (first-two step 32 32)
+    (of-kind step 4 _ _ _ (first-two step 32 64)
+    (of-kind step 5 _ _ _ (first-two step 32 32)
+    (of-kind step 6 _ _ _ (first-two step 32 32)
+    (of-kind step 7 _ _ _ (all-three step)
+    (of-kind step 8 _ _ _ (ltb-true (step .first) 32)
+    (of-kind step 9 _ _ _ (ltb-true (step .first) 32)
+    (of-kind step 10 _ _ _ (first-and step 32 (onGrid (step .x) && onGrid (step .y)))
+    (of-kind step 11 _ _ _ (ltb-true (step .first) 32)
+    (of-kind step 12 _ _ _ (leb-true (step .first) 3155759999) tt))))))))))))

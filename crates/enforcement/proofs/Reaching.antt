@@ -1,0 +1,71 @@
+-- What holds of every reached state, and of every state that a step hands back.
+-- Assumes nothing.
+use mathlib.Core.Path.{_≡_}
+use mathlib.Core.Bool.{Bool, true, false, cond, _&&_}
+use mathlib.Core.List.{List}
+use Rattle.rules.specs.Acceptance.{rulesOf, listAccepted}
+use Rattle.rules.specs.declared.families.Rule.{Rule}
+use Rattle.rules.specs.declared.lists.RuleList.{RuleList}
+use Rattle.enforcement.specs.Steps.{actionOf, target}
+use Rattle.enforcement.specs.Plain.{obeys}
+use Rattle.enforcement.specs.Gate.{refusedNext, decide, stepOf}
+use Rattle.enforcement.specs.Narrow.{Narrow, refusing, breaking, taking, ending}
+use Rattle.enforcement.specs.Reached.{Accepted, Held, Reached, start, read, stepped}
+use Rattle.enforcement.specs.declared.states.State.{State}
+use Rattle.enforcement.specs.declared.steps.Step.{Step}
+use Rattle.enforcement.specs.declared.steps.Action.{Action}
+use Rattle.enforcement.specs.declared.steps.Answer.the-variants.{Refused}
+use Rattle.enforcement.specs.declared.steps.Next.{Next}
+use Rattle.enforcement.proofs.Ranges.{Ranged, action-ranged}
+use Rattle.enforcement.proofs.Kept.{accepted-target, accepted-part, held-target, held-part, fresh-accepted, fresh-held}
+use Rattle.enforcement.proofs.Agreement.{step-narrow, step-keeps, all-hold-fresh}
+
+-- 40 does not refuse it, and each active role is held by its session's user where it was before
+record Kept (before after : State) : Type 0 where
+  stillAccepted : Accepted after
+  stillHeld : Held before → Held after
+
+narrow-keeps : (rules : List Rule) (s : State) (action : Action) (given : Next) → Accepted s → Ranged action → Narrow rules s action given → Kept s (given .state)
+narrow-keeps rules s action given accepted ranged (refusing number e) = record { stillAccepted = accepted; stillHeld = λ held. held }
+narrow-keeps rules s action given accepted ranged (breaking rule e event low) = record { stillAccepted = accepted; stillHeld = λ held. held }
+narrow-keeps rules s action given accepted ranged (taking e event low) =
+    record { stillAccepted = accepted-target action s accepted ranged e; stillHeld = held-target action s accepted ranged e }
+narrow-keeps rules s action given accepted ranged (ending l e event largest) =
+    record {
+      stillAccepted = accepted-part (target s action) l (accepted-target action s accepted ranged e) (largest .isPart);
+      stillHeld = λ held. held-part (target s action) l (held-target action s accepted ranged e held) (largest .isPart);
+    }
+
+step-kept : (list : RuleList) (s : State) (step : Step) → Accepted s → Kept s (stepOf list s step .state)
+unfolding stepOf
+step-kept list s step accepted = rw (accepted .unrefused) (by-list (listAccepted list))
+  where
+    by-list : (listed : Bool) → Kept s (cond (listed && true) (decide (rulesOf list) s (actionOf step)) (refusedNext s (Refused 40)) .state)
+    by-list true = narrow-keeps (rulesOf list) s (actionOf step) (decide (rulesOf list) s (actionOf step)) accepted (action-ranged step) (step-narrow (rulesOf list) s accepted (actionOf step) (action-ranged step))
+    by-list false = record { stillAccepted = accepted; stillHeld = λ held. held }
+
+-- a step hands back a state that 40 does not refuse, whatever the rules
+pub step-accepted : (list : RuleList) (s : State) (step : Step) → Accepted s → Accepted (stepOf list s step .state)
+step-accepted list s step accepted = step-kept list s step accepted .stillAccepted
+
+-- and in which each active role is held by its session's user, where it was before
+pub step-held : (list : RuleList) (s : State) (step : Step) → Accepted s → Held s → Held (stepOf list s step .state)
+step-held list s step accepted = step-kept list s step accepted .stillHeld
+
+-- what is claimed of a reached state
+pub record Good (list : RuleList) (s : State) : Type 0 where
+  pub accepted : Accepted s
+  pub held : Held s
+  pub obeyed : obeys (rulesOf list) s ≡ true
+
+-- every reached state is one that 40 does not refuse, has its active roles held, and obeys the rules, where what was read is so
+pub reached-good : (list : RuleList) → listAccepted list ≡ true → (Read : State → Type 0) → ((s : State) → Read s → Good list s) → {s : State} → Reached list Read s → Good list s
+reached-good list listed Read readGood start = record { accepted = fresh-accepted; held = fresh-held; obeyed = all-hold-fresh (rulesOf list) }
+reached-good list listed Read readGood (read {s = s} h) = readGood s h
+reached-good list listed Read readGood (stepped {s = s} step h) =
+    let good = reached-good list listed Read readGood h in
+    record {
+      accepted = step-accepted list s step (good .accepted);
+      held = step-held list s step (good .accepted) (good .held);
+      obeyed = step-keeps list listed s (good .accepted) (good .obeyed) step .1;
+    }

@@ -1,0 +1,9 @@
+pub mod States
+pub mod Steps
+pub mod Decisions
+pub mod Plain
+pub mod Selection
+pub mod Gate
+pub mod Reached
+pub mod Narrow
+pub mod Table

@@ -1,0 +1,121 @@
+-- Document 01, 'The plain gate': it tests every rule over the whole target, and at an event keeps the largest part of the target's
+-- active pairs. It stands on what both gates share and on nothing else, as a relation and as a function over all parts.
+-- Assumes nothing.
+use Prim.Native.Nat.{ℕ, zero, suc, _+_, _*_, _/_, _%_}
+use mathlib.Core.Path.{_≡_}
+use mathlib.Core.Bool.{Bool, true, false, not, cond, _&&_, _||_}
+use mathlib.Core.List.{List, [], _∷_, _++_}
+use lib.Dec.{eqb}
+use Rattle.sets.specs.Sets.{subset}
+use Rattle.rules.specs.Acceptance.{every}
+use Rattle.rules.specs.declared.families.Rule.{Rule}
+use Rattle.enforcement.specs.States.{ruleHolds}
+use Rattle.enforcement.specs.Steps.{actionOf, Checked, passes, refuses, check, target, withActive, isEvent}
+use Rattle.enforcement.specs.Decisions.{Lowest, unbroken, broken, lowest, endedPairs, pairCount, Largest, Decision, granted, refused, Verdict}
+use Rattle.enforcement.specs.declared.states.State.{State}
+use Rattle.enforcement.specs.declared.steps.Step.{Step}
+use Rattle.enforcement.specs.declared.steps.Action.{Action}
+
+-- every rule holds
+abbrev pub obeys : List Rule → State → Bool
+obeys rules s = every (λ rule. ruleHolds rule s) rules
+
+-- the lowest rule that is broken in a state
+abbrev pub lowestBroken : List Rule → State → Lowest
+lowestBroken rules s = lowest (λ rule. ruleHolds rule s) 1 rules
+
+-- what is compared of a step that leads from one state to the next
+abbrev pub verdict : State → Decision → ℕ → State → Verdict
+verdict before decision rule after =
+    record {
+      decision = decision;
+      rule = rule;
+      ended = endedPairs (before .active) (after .active);
+      endedNumber = pairCount (endedPairs (before .active) (after .active));
+      state = after;
+    }
+
+-- ---- as a relation
+
+pub data Plain (rules : List Rule) (s : State) (action : Action) : Verdict → Type 0 where
+  -- "It makes the same checks before 30; if one refuses, it keeps the old state."
+  refusing : (number : ℕ) → check s action ≡ refuses number → Plain rules s action (verdict s (refused number) 0 s)
+  -- "For a request .. it tests every rule over the whole target; if any is broken it answers 30 with the lowest and keeps the old state"
+  breaking : (rule : ℕ) → check s action ≡ passes → isEvent action ≡ false → lowestBroken rules (target s action) ≡ broken rule → Plain rules s action (verdict s (refused 30) rule s)
+  -- "else it takes the target"
+  taking : check s action ≡ passes → isEvent action ≡ false → lowestBroken rules (target s action) ≡ unbroken → Plain rules s action (verdict s granted 0 (target s action))
+  -- "For an event it keeps the largest part of the target's active pairs under which every rule holds"
+  ending : (l : List ℕ) → check s action ≡ passes → isEvent action ≡ true → Largest (obeys rules) (target s action) l → Plain rules s action (verdict s granted 0 (withActive (target s action) l))
+
+-- "a gate's next step gets the state that its last one handed back"
+pub data PlainRun (rules : List Rule) : State → List Step → List Verdict → Type 0 where
+  done : {s : State} → PlainRun rules s [] []
+  next : {s : State} {step : Step} {steps : List Step} {v : Verdict} {verdicts : List Verdict} →
+      Plain rules s (actionOf step) v → PlainRun rules (v .state) steps verdicts → PlainRun rules s (step ∷ steps) (v ∷ verdicts)
+
+-- ---- as a function: at an event it goes through all parts
+
+-- the sets of numbers below k that lie within a set
+unfoldable pub doubled : Bool → List ℕ → List ℕ
+doubled isMember [] = []
+doubled true (n ∷ sets) = (n * 2) ∷ ((n * 2 + 1) ∷ doubled true sets)
+doubled false (n ∷ sets) = (n * 2) ∷ doubled false sets
+
+unfoldable pub subsets : ℕ → ℕ → List ℕ
+subsets zero n = 0 ∷ []
+subsets (suc k) n = doubled (eqb (n % 2) 1) (subsets k (n / 2))
+
+-- each of the sets before each of the lists
+unfoldable pub before : ℕ → List (List ℕ) → List (List ℕ)
+before roles [] = []
+before roles (l ∷ lists) = (roles ∷ l) ∷ before roles lists
+
+unfoldable pub eachBefore : List ℕ → List (List ℕ) → List (List ℕ)
+eachBefore [] lists = []
+eachBefore (roles ∷ sets) lists = before roles lists ++ eachBefore sets lists
+
+-- all parts of the active pairs of the sessions
+unfoldable pub parts : List ℕ → List (List ℕ)
+parts [] = [] ∷ []
+parts (roles ∷ rest) = eachBefore (subsets 32 roles) (parts rest)
+
+unfoldable pub isWithin : List ℕ → List ℕ → Bool
+isWithin [] [] = true
+isWithin [] (b ∷ m) = false
+isWithin (a ∷ l) [] = false
+isWithin (a ∷ l) (b ∷ m) = subset a b && isWithin l m
+
+unfoldable pub allLists : (List ℕ → Bool) → List (List ℕ) → Bool
+allLists test [] = true
+allLists test (l ∷ lists) = test l && allLists test lists
+
+-- the first list that passes the test; the empty one where none does
+unfoldable pub firstList : (List ℕ → Bool) → List (List ℕ) → List ℕ
+firstList test [] = []
+firstList test (l ∷ lists) = cond (test l) l (firstList test lists)
+
+-- the test holds under l, and each part under which it holds lies within l
+unfoldable pub isLargest : (State → Bool) → State → List ℕ → Bool
+isLargest test s l = test (withActive s l) && allLists (λ m. not (test (withActive s m)) || isWithin m l) (parts (s .active))
+
+unfoldable pub largestPart : (State → Bool) → State → List ℕ
+largestPart test s = firstList (isLargest test s) (parts (s .active))
+
+unfoldable pub plainRequest : State → State → Lowest → Verdict
+plainRequest s after unbroken = verdict s granted 0 after
+plainRequest s after (broken rule) = verdict s (refused 30) rule s
+
+unfoldable pub plainPassed : Bool → List Rule → State → State → Verdict
+plainPassed false rules s after = plainRequest s after (lowestBroken rules after)
+plainPassed true rules s after = verdict s granted 0 (withActive after (largestPart (obeys rules) after))
+
+unfoldable pub plainChecked : Checked → List Rule → State → Action → Verdict
+plainChecked passes rules s action = plainPassed (isEvent action) rules s (target s action)
+plainChecked (refuses number) rules s action = verdict s (refused number) 0 s
+
+unfoldable pub plainStep : List Rule → State → Action → Verdict
+plainStep rules s action = plainChecked (check s action) rules s action
+
+unfoldable pub plainRun : List Rule → State → List Step → List Verdict
+plainRun rules s [] = []
+plainRun rules s (step ∷ steps) = plainStep rules s (actionOf step) ∷ plainRun rules (plainStep rules s (actionOf step) .state) steps

@@ -1,0 +1,39 @@
+-- Which states are meant where a claim speaks of a state: any value of the type, one that 40 does not refuse, one that is reached.
+-- Assumes nothing.
+use Prim.Native.Nat.{ℕ, _^_, _<_}
+use mathlib.Core.Path.{_≡_}
+use mathlib.Core.Bool.{true}
+use lib.ListN.{length}
+use Rattle.rules.specs.Families.{wordAt}
+use Rattle.rules.specs.declared.lists.RuleList.{RuleList}
+use Rattle.enforcement.specs.States.{fresh, activeRole, holdsRole, userOf, stateAccepted}
+use Rattle.enforcement.specs.Gate.{stepOf}
+use Rattle.enforcement.specs.declared.states.State.{State}
+use Rattle.enforcement.specs.declared.steps.Step.{Step}
+
+-- what the declared type says of each of its values: the arrays' lengths, and that a word has 32 or 64 digits
+pub record Typed (s : State) : Type 0 where
+  pub users : length (s .assigned) ≡ 64
+  pub roles : length (s .granted) ≡ 32
+  pub allSessions : length (s .sessions) ≡ 32
+  pub actives : length (s .active) ≡ 32
+  pub records : length (s .history) ≡ 1024
+  pub smallAssigned : (u : ℕ) → wordAt (s .assigned) u < 2 ^ 32
+  pub smallGranted : (r : ℕ) → wordAt (s .granted) r < 2 ^ 32
+  pub smallActive : (i : ℕ) → wordAt (s .active) i < 2 ^ 32
+  pub smallHistory : (k : ℕ) → wordAt (s .history) k < 2 ^ 64
+
+-- a value of the type that 40 does not refuse
+pub record Accepted (s : State) : Type 0 where
+  pub typed : Typed s
+  pub unrefused : stateAccepted s ≡ true
+
+-- each active role is held by its session's user
+abbrev pub Held : State → Type 0
+Held s = (i r : ℕ) → activeRole s i r ≡ true → holdsRole s (userOf s i) r ≡ true
+
+-- "A state is reached when steps lead to it from a fresh state, or from one read from a saved text under the rules in force."
+pub data Reached (list : RuleList) (Read : State → Type 0) : State → Type 0 where
+  start : Reached list Read fresh
+  read : {s : State} → Read s → Reached list Read s
+  stepped : {s : State} (step : Step) → Reached list Read s → Reached list Read (stepOf list s step .state)

@@ -1,0 +1,150 @@
+-- Document 01, 'State and steps': a step's numbers (20), its checks in the table's order, and its target.
+-- Assumes nothing.
+use Prim.Native.Nat.{ℕ, zero, suc, _+_, _*_}
+use mathlib.Core.Bool.{Bool, true, false, not, cond, _&&_}
+use mathlib.Core.List.{List}
+use lib.Dec.{eqb, ltb}
+use lib.ListN.{set}
+use Rattle.sets.specs.Sets.{with, without, any}
+use Rattle.places.specs.Places.{onGrid}
+use Rattle.places.specs.declared.Position.{Position}
+use Rattle.places.specs.declared.Position.the-variants.{Unknown, Known}
+use Rattle.rules.specs.Families.{wordAt, closedSession, isActiveFor}
+use Rattle.rules.specs.declared.sessions.Session.{Session}
+use Rattle.enforcement.specs.States.{assignedRole, holdsRole, carries, isOpen, userOf, activeRole, isTime}
+use Rattle.enforcement.specs.declared.states.State.{State}
+use Rattle.enforcement.specs.declared.steps.Step.{Step}
+use Rattle.enforcement.specs.declared.steps.Action.{Action}
+use Rattle.enforcement.specs.declared.steps.Action.the-variants.{Malformed, Assign, Withdraw, Grant, Take, Open, Activate, Deactivate, Access, Finish, Close, Move, Lost, Clock}
+
+-- ---- "step's number, its kind's included, outside its range" is 20
+
+abbrev pub ranged : Bool → Action → Action
+ranged inRange action = cond inRange action Malformed
+
+-- "Users u 0 to 63, roles r 0 to 31, permissions p 0 to 31, sessions s 0 to 31, objects o 0 to 31"; kinds 0 to 12 in the table's
+-- order; numbers that a kind does not use are not looked at
+unfoldable pub actionOf : Step → Action
+actionOf step =
+    cond (eqb (step .kind) 0) (ranged (ltb (step .first) 64 && ltb (step .second) 32) (Assign (step .first) (step .second)))
+    (cond (eqb (step .kind) 1) (ranged (ltb (step .first) 64 && ltb (step .second) 32) (Withdraw (step .first) (step .second)))
+    (cond (eqb (step .kind) 2) (ranged (ltb (step .first) 32 && ltb (step .second) 32) (Grant (step .first) (step .second)))
+    (cond (eqb (step .kind) 3) (ranged (ltb (step .first) 32 && ltb (step .second) 32) (Take (step .first) (step .second)))
+    (cond (eqb (step .kind) 4) (ranged (ltb (step .first) 32 && ltb (step .second) 64) (Open (step .first) (step .second)))
+    (cond (eqb (step .kind) 5) (ranged (ltb (step .first) 32 && ltb (step .second) 32) (Activate (step .first) (step .second)))
+    (cond (eqb (step .kind) 6) (ranged (ltb (step .first) 32 && ltb (step .second) 32) (Deactivate (step .first) (step .second)))
+    (cond (eqb (step .kind) 7) (ranged (ltb (step .first) 32 && (ltb (step .second) 32 && ltb (step .third) 32)) (Access (step .first) (step .second) (step .third)))
+    (cond (eqb (step .kind) 8) (ranged (ltb (step .first) 32) (Finish (step .first)))
+    (cond (eqb (step .kind) 9) (ranged (ltb (step .first) 32) (Close (step .first)))
+    (cond (eqb (step .kind) 10) (ranged (ltb (step .first) 32 && (onGrid (step .x) && onGrid (step .y))) (Move (step .first) (record { x = step .x; y = step .y })))
+    (cond (eqb (step .kind) 11) (ranged (ltb (step .first) 32) (Lost (step .first)))
+    (cond (eqb (step .kind) 12) (ranged (isTime (step .first)) (Clock (step .first))) Malformed))))))))))))
+
+-- ---- the table's second column: "Checks run in the order given", those before 30
+
+pub data Checked : Type 0 where
+  passes : Checked
+  refuses : ℕ → Checked
+
+-- where the cause is there its number, else the checks after it
+abbrev pub refuseIf : Bool → ℕ → Checked → Checked
+refuseIf true number later = refuses number
+refuseIf false number later = later
+
+unfoldable pub check : State → Action → Checked
+check s Malformed = refuses 20
+check s (Assign u r) = refuseIf (holdsRole s u r) 24 passes
+check s (Withdraw u r) = refuseIf (not (assignedRole s u r)) 25 (refuseIf (isActiveFor (s .sessions) (s .active) u r) 27 passes)
+check s (Grant r p) = refuseIf (carries s r p) 24 passes
+check s (Take r p) = refuseIf (not (carries s r p)) 25 passes
+check s (Open i u) = refuseIf (isOpen s i) 22 passes
+check s (Activate i r) =
+    refuseIf (not (isOpen s i)) 23 (refuseIf (activeRole s i r) 24 (refuseIf (not (holdsRole s (userOf s i) r)) 26 passes))
+check s (Deactivate i r) = refuseIf (not (isOpen s i)) 23 (refuseIf (not (activeRole s i r)) 25 passes)
+check s (Access i p o) = refuseIf (not (isOpen s i)) 23 (refuseIf (not (any 32 (λ r. activeRole s i r && carries s r p))) 28 passes)
+check s (Finish o) = passes
+check s (Close i) = refuseIf (not (isOpen s i)) 23 passes
+check s (Move i point) = refuseIf (not (isOpen s i)) 23 passes
+check s (Lost i) = refuseIf (not (isOpen s i)) 23 passes
+check s (Clock t) = refuseIf (ltb t (s .time)) 21 passes
+
+-- ---- "the target: the state as if allowed"
+
+abbrev pub withAssigned : State → List ℕ → State
+withAssigned s l = record { time = s .time; assigned = l; granted = s .granted; sessions = s .sessions; active = s .active; history = s .history }
+
+abbrev pub withGranted : State → List ℕ → State
+withGranted s l = record { time = s .time; assigned = s .assigned; granted = l; sessions = s .sessions; active = s .active; history = s .history }
+
+abbrev pub withSessions : State → List Session → State
+withSessions s l = record { time = s .time; assigned = s .assigned; granted = s .granted; sessions = l; active = s .active; history = s .history }
+
+abbrev pub withActive : State → List ℕ → State
+withActive s l = record { time = s .time; assigned = s .assigned; granted = s .granted; sessions = s .sessions; active = l; history = s .history }
+
+abbrev pub withHistory : State → List ℕ → State
+withHistory s l = record { time = s .time; assigned = s .assigned; granted = s .granted; sessions = s .sessions; active = s .active; history = l }
+
+abbrev pub withTime : State → ℕ → State
+withTime s t = record { time = t; assigned = s .assigned; granted = s .granted; sessions = s .sessions; active = s .active; history = s .history }
+
+-- number x put into the set at a place, and taken out of it
+abbrev pub put : ℕ → List ℕ → ℕ → ℕ → List ℕ
+put width words i x = set words i (with width (wordAt words i) x)
+
+abbrev pub takeOut : List ℕ → ℕ → ℕ → List ℕ
+takeOut words i x = set words i (without (wordAt words i) x)
+
+-- the sets at k places from a place on emptied
+unfoldable pub emptied : ℕ → List ℕ → ℕ → List ℕ
+emptied zero words start = words
+emptied (suc k) words start = set (emptied k words start) (start + k) 0
+
+abbrev pub session : Bool → ℕ → Position → Session
+session isOpen user position = record { «is_open» = isOpen; user = user; position = position }
+
+-- session i positioned so
+abbrev pub placed : State → ℕ → Position → State
+placed s i position = withSessions s (set (s .sessions) i (session (isOpen s i) (userOf s i) position))
+
+unfoldable pub target : State → Action → State
+target s Malformed = s
+-- "assign gives u the role r, withdraw removes it"
+target s (Assign u r) = withAssigned s (put 32 (s .assigned) u r)
+target s (Withdraw u r) = withAssigned s (takeOut (s .assigned) u r)
+-- "grant gives r the permission p, take removes it"
+target s (Grant r p) = withGranted s (put 32 (s .granted) r p)
+target s (Take r p) = withGranted s (takeOut (s .granted) r p)
+-- "open opens s for u"; "(position unknown)"
+target s (Open i u) = withSessions s (set (s .sessions) i (session true u Unknown))
+-- "activate and deactivate add and remove the pair (s, r)"
+target s (Activate i r) = withActive s (put 32 (s .active) i r)
+target s (Deactivate i r) = withActive s (takeOut (s .active) i r)
+-- "access records the user of s under o and p"
+target s (Access i p o) = withHistory s (put 64 (s .history) (o * 32 + p) (userOf s i))
+-- "finish empties o's record"
+target s (Finish o) = withHistory s (emptied 32 (s .history) (o * 32))
+-- "close leaves s closed and empty"
+target s (Close i) = withActive (withSessions s (set (s .sessions) i closedSession)) (set (s .active) i 0)
+-- "move and lost set its position"
+target s (Move i point) = placed s i (Known point)
+target s (Lost i) = placed s i Unknown
+-- "clock sets the time"
+target s (Clock t) = withTime s t
+
+-- "The last three rows (close, move and lost, clock) are events."
+abbrev pub isEvent : Action → Bool
+isEvent Malformed = false
+isEvent (Assign u r) = false
+isEvent (Withdraw u r) = false
+isEvent (Grant r p) = false
+isEvent (Take r p) = false
+isEvent (Open i u) = false
+isEvent (Activate i r) = false
+isEvent (Deactivate i r) = false
+isEvent (Access i p o) = false
+isEvent (Finish o) = false
+isEvent (Close i) = true
+isEvent (Move i point) = true
+isEvent (Lost i) = true
+isEvent (Clock t) = true

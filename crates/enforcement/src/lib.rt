@@ -1,0 +1,10 @@
+// The gate of document 01, 'State and steps': the state, the steps, and what a step answers.
+pub mod states;
+pub mod steps;
+
+pub use rules::Session;
+pub use states::State;
+pub use steps::Action;
+pub use steps::Answer;
+pub use steps::Next;
+pub use steps::Step;
