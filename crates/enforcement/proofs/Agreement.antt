@@ -7,7 +7,7 @@ use mathlib.Core.Logic.{_↔_}
 use mathlib.Core.List.{List, [], _∷_}
 use Prim.Native.Nat.{ℕ, suc, _+_}
 use native.Mathlib.Omega.{arith}
-use Rattle.sets.specs.Sets.{member, difference}
+use Rattle.sets.specs.Sets.{member, difference, count}
 use Rattle.sets.proofs.Members.{member-difference}
 use Rattle.sets.proofs.Counting.{count-none}
 use Rattle.sets.proofs.Booleans.{both, right-or}
@@ -54,11 +54,13 @@ lowest-none test n (rule ∷ rules) e = go (test rule) e (lowest-none test (suc 
 
 -- ---- a refused step ends no pair
 
-none-ended : (l : List ℕ) → pairCount (endedPairs l l) ≡ 0
+pub nothing-lost : (roles : ℕ) → count 32 (member (difference roles roles)) ≡ 0
+nothing-lost roles = count-none 32 (member (difference roles roles)) (λ r h. member-difference roles roles r ∙ and-not-self (member roles r))
+
+pub none-ended : (l : List ℕ) → pairCount (endedPairs l l) ≡ 0
 unfolding endedPairs pairCount
 none-ended [] = refl
-none-ended (roles ∷ rest) =
-    ap₂ _+_ (count-none 32 (member (difference roles roles)) (λ r h. member-difference roles roles r ∙ and-not-self (member roles r))) (none-ended rest)
+none-ended (roles ∷ rest) = ap₂ _+_ (nothing-lost roles) (none-ended rest)
 
 -- what is compared of a refusal
 abbrev refusal : State → ℕ → ℕ → Verdict

@@ -1,7 +1,7 @@
 -- The sentences of those who rely on the gate, over every list of steps from a fresh state under an accepted rule list.
 -- Assumes nothing.
 use mathlib.Core.Path.{_≡_, refl, ap, _∙_}
-use mathlib.Core.Bool.{Bool, true, false, not}
+use mathlib.Core.Bool.{Bool, true, false}
 use mathlib.Core.List.{List, [], _∷_, map}
 use Prim.Native.Nat.{ℕ, _<_}
 use Rattle.sets.proofs.Booleans.{both}

@@ -6,9 +6,17 @@ pub mod Rounds
 pub mod Ending
 pub mod Parts
 pub mod Kept
+pub mod Judgement
 pub mod Agreement
 pub mod Reaching
 pub mod Callers
 pub mod Table
 pub mod Causes
 pub mod Targets
+pub mod AnswerWords
+pub mod Grid
+pub mod Passing
+pub mod Planning
+pub mod Settling
+pub mod Requests
+pub mod Answering

@@ -7,3 +7,5 @@ pub mod Gate
 pub mod Reached
 pub mod Narrow
 pub mod Table
+pub mod Deciding
+pub mod Words

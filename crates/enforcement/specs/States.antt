@@ -1,7 +1,7 @@
 -- Document 01, 'State and steps': the state and what can be observed of it, a rule over a state, and what 40 looks for in a state.
 -- Assumes nothing.
 use Prim.Native.Nat.{ℕ}
-use mathlib.Core.Bool.{Bool, true, false, not, cond, _&&_}
+use mathlib.Core.Bool.{Bool, true, false, cond, _&&_}
 use mathlib.Core.List.{List}
 use lib.Dec.{eqb, ltb, leb}
 use lib.ListN.{replicate}

@@ -5,6 +5,7 @@ use mathlib.Core.Bool.{Bool, true, false, not, cond, _&&_}
 use mathlib.Core.List.{List}
 use lib.Dec.{eqb, ltb}
 use lib.ListN.{set}
+use lib.IntN.{ℤ}
 use Rattle.sets.specs.Sets.{with, without, any}
 use Rattle.places.specs.Places.{onGrid}
 use Rattle.places.specs.declared.Position.{Position}
@@ -22,6 +23,9 @@ use Rattle.enforcement.specs.declared.steps.Action.the-variants.{Malform
 abbrev pub ranged : Bool → Action → Action
 ranged inRange action = cond inRange action Malformed
 
+abbrev pub moveOf : ℕ → ℤ → ℤ → Action
+moveOf i x y = ranged (ltb i 32 && (onGrid x && onGrid y)) (Move i (record { x = x; y = y }))
+
 -- "Users u 0 to 63, roles r 0 to 31, permissions p 0 to 31, sessions s 0 to 31, objects o 0 to 31"; kinds 0 to 12 in the table's
 -- order; numbers that a kind does not use are not looked at
 unfoldable pub actionOf : Step → Action
@@ -36,7 +40,7 @@ actionOf step =
     (cond (eqb (step .kind) 7) (ranged (ltb (step .first) 32 && (ltb (step .second) 32 && ltb (step .third) 32)) (Access (step .first) (step .second) (step .third)))
     (cond (eqb (step .kind) 8) (ranged (ltb (step .first) 32) (Finish (step .first)))
     (cond (eqb (step .kind) 9) (ranged (ltb (step .first) 32) (Close (step .first)))
-    (cond (eqb (step .kind) 10) (ranged (ltb (step .first) 32 && (onGrid (step .x) && onGrid (step .y))) (Move (step .first) (record { x = step .x; y = step .y })))
+    (cond (eqb (step .kind) 10) (moveOf (step .first) (step .x) (step .y))
     (cond (eqb (step .kind) 11) (ranged (ltb (step .first) 32) (Lost (step .first)))
     (cond (eqb (step .kind) 12) (ranged (isTime (step .first)) (Clock (step .first))) Malformed))))))))))))
 

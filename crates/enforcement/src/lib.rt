@@ -1,4 +1,8 @@
 // The gate of document 01, 'State and steps': the state, the steps, and what a step answers.
+mod acceptance;
+mod events;
+mod judging;
+pub mod selection;
 pub mod states;
 pub mod steps;
 

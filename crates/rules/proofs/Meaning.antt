@@ -6,7 +6,7 @@ use mathlib.Core.Logic.{_↔_}
 use Prim.Native.Nat.{ℕ, _≤_, _<_}
 use lib.Dec.{eqb}
 use borrow.Author.Tests.{leb-true, le-leb, eq-eqb, eqb-true}
-use Rattle.sets.specs.Sets.{member, any, count}
+use Rattle.sets.specs.Sets.{member, count}
 use Rattle.sets.proofs.Booleans.{both-true, left-true, right-true, not-both, of-not-both, implied, of-implied}
 use Rattle.sets.proofs.Bounded.{all-means, any-means}
 use Rattle.sets.proofs.Counting.{AtMostOne, at-most-one}

@@ -268,7 +268,7 @@ fn users_active(sessions: [Session; 32], active: &[u32; 32], role: u32) -> u64
 }
 
 // The roles that are active in some session.
-fn active_somewhere(active: &[u32; 32]) -> u32
+pub fn active_somewhere(active: &[u32; 32]) -> u32
     ensures { λ set. ⌜ set ≡ unionOf 32 (wordAt (now (active .entry))) ⌝ }
 {
     let mut roles: u32 = 0;

@@ -1,0 +1,119 @@
+-- An event's decision, and a step's by what is read of it: what the code of a step cites.
+-- Assumes nothing.
+use mathlib.Core.Path.{_≡_, refl, sym, ap, ap₂, _∙_, subst}
+use mathlib.Core.Bool.{Bool, true, false, not, cond, _&&_, _||_}
+use mathlib.Core.List.{List, [], _∷_}
+use Prim.Native.Nat.{ℕ, suc, _≤_}
+use lib.Dec.{leb}
+use lib.ListN.{set}
+use borrow.Author.Tests.{leb-true}
+use Rattle.sets.proofs.Booleans.{both}
+use Rattle.places.specs.declared.Point.{Point}
+use Rattle.places.specs.declared.Position.{Position}
+use Rattle.places.specs.declared.Position.the-variants.{Unknown, Known}
+use Rattle.rules.specs.Acceptance.{every, ruleAccepted, rulesOf, listAccepted}
+use Rattle.rules.specs.declared.families.Rule.{Rule}
+use Rattle.rules.specs.declared.families.Rule.the-variants.{Prerequisite, MaxUsers, MaxRoles, MaxPermissions, MaxActive, StaticSeparation, DynamicSeparation, Dependency, TimeContext, LocationContext, HistorySeparation, BindingOfDuty}
+use Rattle.rules.specs.declared.lists.RuleList.{RuleList}
+use Rattle.enforcement.specs.States.{isOpen, userOf, stateAccepted}
+use Rattle.enforcement.specs.Steps.{passes, refuseIf, check, target, actionOf, withActive, withSessions, session, placed}
+use Rattle.enforcement.specs.Decisions.{endedPairs, pairCount}
+use Rattle.enforcement.specs.Selection.{selects, selectedNumber}
+use Rattle.enforcement.specs.Gate.{keeps, stays, round, remaining, refusedNext, passedNext, checkedNext, decide, stepOf}
+use Rattle.enforcement.specs.Deciding.{context, leftOf, eventOf, placedOf}
+use Rattle.enforcement.specs.declared.states.State.{State}
+use Rattle.enforcement.specs.declared.steps.Step.{Step}
+use Rattle.enforcement.specs.declared.steps.Action.{Action}
+use Rattle.enforcement.specs.declared.steps.Action.the-variants.{Move, Lost}
+use Rattle.enforcement.specs.declared.steps.Answer.the-variants.{Granted, Refused}
+use Rattle.enforcement.specs.declared.steps.Next.{Next}
+use Rattle.enforcement.specs.declared.events.Left.{Left}
+use Rattle.enforcement.proofs.Ranges.{Ranged, action-ranged}
+use Rattle.enforcement.proofs.Settling.{settled-same, sifted-same}
+
+-- ---- what is left of the active pairs: the sessions, the active pairs and the time decide it
+
+keeps-same : (rule : Rule) (s : State) (l : List ℕ) (i r : ℕ) → keeps rule s l i r ≡ keeps rule (context (s .sessions) (s .active) (s .time)) l i r
+unfolding keeps
+keeps-same (Prerequisite a q) s l i r = refl
+keeps-same (MaxUsers a n) s l i r = refl
+keeps-same (MaxRoles n) s l i r = refl
+keeps-same (MaxPermissions a n) s l i r = refl
+keeps-same (MaxActive n) s l i r = refl
+keeps-same (StaticSeparation a q) s l i r = refl
+keeps-same (DynamicSeparation a q) s l i r = refl
+keeps-same (Dependency a q) s l i r = refl
+keeps-same (TimeContext a term) s l i r = refl
+keeps-same (LocationContext a side) s l i r = refl
+keeps-same (HistorySeparation p q) s l i r = refl
+keeps-same (BindingOfDuty p q) s l i r = refl
+
+stays-same : (selected : Rule → Bool) (rules : List Rule) (s : State) (l : List ℕ) (i r : ℕ) → stays selected rules s l i r ≡ stays selected rules (context (s .sessions) (s .active) (s .time)) l i r
+unfolding keeps every
+stays-same selected [] s l i r = refl
+stays-same selected (rule ∷ rules) s l i r =
+    ap₂ (λ (a b : Bool). (not (selected rule) || a) && b) (keeps-same rule s l i r) (stays-same selected rules s l i r)
+
+remaining-same : (selected : Rule → Bool) (rules : List Rule) (s : State) → remaining selected rules s ≡ remaining selected rules (context (s .sessions) (s .active) (s .time))
+unfolding remaining round
+remaining-same selected rules s =
+    let near : State = context (s .sessions) (s .active) (s .time) in
+    settled-same (round selected rules s) (round selected rules near) (λ l. Unit {0}) (λ l h. tt)
+    (λ l h. sifted-same (stays selected rules s l) (stays selected rules near l) l (λ i r small active. stays-same selected rules s l i r))
+    (suc (pairCount (s .active))) (s .active) tt
+
+pub event-left : (rules : List Rule) (before : List ℕ) (s : State) (action : Action) (left : Left) (total : ℕ) → left ≡ leftOf (selects action) rules (context (s .sessions) (s .active) (s .time)) → total ≡ pairCount (endedPairs before (left .active)) → _≡_ {A = Next} (record { state = withActive s (left .active); answer = Granted (left .selected) total }) (eventOf rules before s action)
+unfolding eventOf leftOf
+event-left rules before s action left total e counted =
+    ap (λ (n : ℕ). record { state = withActive s (left .active); answer = Granted (left .selected) n }) counted
+    ∙ ap (λ (l : Left). record { state = withActive s (l .active); answer = Granted (l .selected) (pairCount (endedPairs before (l .active))) }) e
+    ∙ ap (λ (l : List ℕ). record { state = withActive s l; answer = Granted (selectedNumber (selects action) rules) (pairCount (endedPairs before l)) }) (sym (remaining-same (selects action) rules s))
+
+pub placed-closed : (rules : List Rule) (s : State) (action : Action) (i : ℕ) (position : Position) → isOpen s i ≡ false → refusedNext s (Refused 23) ≡ placedOf rules s action i position
+unfolding placedOf
+placed-closed rules s action i position h = rw (h) refl
+
+pub placed-open : (rules : List Rule) (s : State) (action : Action) (i : ℕ) (position : Position) → isOpen s i ≡ true → eventOf rules (s .active) (withSessions s (set (s .sessions) i (session true (userOf s i) position))) action ≡ placedOf rules s action i position
+unfolding placedOf
+placed-open rules s action i position h = rw (h) refl
+
+module _ (rules : List Rule) (s : State) (i : ℕ) where
+  pub move-placed : (point : Point) → placedOf rules s (Move i point) i (Known point) ≡ decide rules s (Move i point)
+  unfolding placedOf decide checkedNext passedNext eventOf check target
+  move-placed point = go (isOpen s i)
+    where
+      go : (b : Bool) → cond b (eventOf rules (s .active) (placed s i (Known point)) (Move i point)) (refusedNext s (Refused 23)) ≡ checkedNext (refuseIf (not b) 23 passes) rules s (Move i point)
+      go true = refl
+      go false = refl
+
+  pub lost-placed : placedOf rules s (Lost i) i Unknown ≡ decide rules s (Lost i)
+  unfolding placedOf decide checkedNext passedNext eventOf check target
+  lost-placed = go (isOpen s i)
+    where
+      go : (b : Bool) → cond b (eventOf rules (s .active) (placed s i Unknown) (Lost i)) (refusedNext s (Refused 23)) ≡ checkedNext (refuseIf (not b) 23 passes) rules s (Lost i)
+      go true = refl
+      go false = refl
+
+-- ---- a step by the action that is read of it
+
+module _ (step : Step) (asked action : Action) (read : asked ≡ actionOf step) (told : asked ≡ action) where
+  pub told-ranged : Ranged action
+  told-ranged = subst Ranged (sym read ∙ told) (action-ranged step)
+
+  pub told-decided : (rules : List Rule) (s : State) (next : Next) → next ≡ decide rules s action → next ≡ decide rules s (actionOf step)
+  told-decided rules s next e = e ∙ ap (λ (a : Action). decide rules s a) (sym told ∙ read)
+
+-- ---- 40
+
+module _ (list : RuleList) (s : State) (step : Step) where
+  pub step-unaccepted : (listAccepted list && stateAccepted s) ≡ false → refusedNext s (Refused 40) ≡ stepOf list s step
+  unfolding stepOf
+  step-unaccepted h = rw (h) refl
+
+  pub step-accepted : (listAccepted list && stateAccepted s) ≡ true → decide (rulesOf list) s (actionOf step) ≡ stepOf list s step
+  unfolding stepOf
+  step-accepted h = rw (h) refl
+
+pub accepted-length : (list : RuleList) → listAccepted list ≡ true → list .length ≤ 128
+unfolding listAccepted
+accepted-length list h = leb-true (list .length) 128 (both (leb (list .length) 128) (every ruleAccepted (rulesOf list)) h .0)

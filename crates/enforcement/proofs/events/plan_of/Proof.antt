@@ -1,0 +1,70 @@
+-- `enforcement::events::plan_of` meets its contract. The loop's invariant: the plan is one for the rules passed.
+-- Assumes nothing.
+use mathlib.Core.Path.{_≡_, sym, _∙_}
+use Prim.Native.Nat.{_≤_, _-_}
+use native.Mathlib.Omega.{arith}
+use lib.ListN.{length, length-map}
+use Rattle.enforcement.specs.Selection.{selects}
+use Rattle.enforcement.specs.Deciding.{context, Planned}
+use Rattle.enforcement.proofs.Judgement.{firstRules}
+use Rattle.enforcement.proofs.Planning.{planned-none, planned-more, planned-small}
+use borrow.Author.Needs.{needs}
+use Rattle.enforcement.proofs.events.plan_of.Statement.{statement}
+use Rattle.enforcement.proofs.events.plan_of.Tie as tie
+
+abbrev Inv-loop : tie.InvT-loop
+Inv-loop action sessions active time list length plan₀ i₀ plan i = (i ≤ length) × Planned (selects action) (firstRules i (list .slots)) (context sessions active time) plan
+
+abbrev μ-loop : tie.MeasureT-loop
+μ-loop action sessions active time list length plan₀ i₀ plan i = length - i
+
+-- The type fixes the number of slots, so each index below the length is one of a slot.
+slots-length : (c : tie.Start Inv-loop μ-loop) → length (c .args .t1 .slots) ≡ 128
+slots-length c = sym (length-map (c .args .t1 .slots) _) ∙ c .good .0 .1 .1 .0 .1 .0 .1
+
+loop-holds : tie.Need-loop-holds Inv-loop μ-loop
+loop-holds c = (omega arith, planned-none _ _ (c .args .t1 .slots))
+
+mul-slot : tie.Need-mul-slot Inv-loop μ-loop
+mul-slot c = search needs
+
+element-copy-out-slot : tie.Need-element-copy-out-slot Inv-loop μ-loop
+element-copy-out-slot c = search needs
+
+consider-requires : tie.Need-consider-requires Inv-loop μ-loop
+consider-requires c κs =
+    let now = c .before .before .loop in
+    let start = c .before .before .before in
+    let long = slots-length start in
+    (now .inv .1 .outs, now .inv .1 .lacks, omega (arith, planned-small _ _ (start .args .t1 .slots) (now .i) (now .plan) (omega arith) (now .inv .1)))
+
+add-i : tie.Need-add-i Inv-loop μ-loop
+add-i c = search needs
+
+loop-less : tie.Need-loop-less Inv-loop μ-loop
+loop-less c = search needs
+
+loop-again : tie.Need-loop-again Inv-loop μ-loop
+loop-again c =
+    let now = c .before .before .before .loop in
+    let start = c .before .before .before .before in
+    let long = slots-length start in
+    (search needs, planned-more _ _ (start .args .t1 .slots) (now .i) _ _ _ (omega arith) (now .inv .1) (c .consider .ensures))
+
+returns : tie.Need-returns Inv-loop μ-loop
+returns c = let end : c .before .loop .i ≡ c .before .before .args .t1 .length = omega arith in rw end at (c .before .loop .inv .1)
+
+pub plan-of-spec : {M : Type 1} → statement M
+plan-of-spec =
+    tie.close
+    (tie.spec
+    Inv-loop
+    μ-loop
+    loop-holds
+    mul-slot
+    element-copy-out-slot
+    consider-requires
+    add-i
+    loop-less
+    loop-again
+    returns)

@@ -1,0 +1,16 @@
+-- `enforcement::states::State::move_to` meets its contract.
+-- Assumes nothing.
+use mathlib.Core.Path.{_∙_}
+use Rattle.enforcement.proofs.Answering.{move-placed}
+use borrow.Author.Needs.{needs}
+use Rattle.enforcement.proofs.states.State.move_to.Statement.{statement}
+use Rattle.enforcement.proofs.states.State.move_to.Tie as tie
+
+placed-requires : tie.Need-placed-requires
+placed-requires c κs = search needs
+
+returns : tie.Need-returns
+returns c = c .placed .ensures ∙ move-placed _ _ _ _
+
+pub move-to-spec : {M : Type 1} → statement M
+move-to-spec = tie.close (tie.spec placed-requires returns)

@@ -1,0 +1,49 @@
+-- `enforcement::states::State::step` meets its contract.
+-- Assumes nothing.
+use mathlib.Core.Path.{sym, ap, ap₂, _∙_}
+use mathlib.Core.Bool.{Bool, _&&_}
+use borrow.Author.Tests.{not-true, not-false}
+use Rattle.enforcement.specs.States.{stateAccepted}
+use Rattle.enforcement.proofs.Answering.{step-unaccepted, step-accepted, accepted-length}
+use borrow.Author.Needs.{needs}
+use Rattle.enforcement.proofs.states.State.step.Statement.{statement}
+use Rattle.enforcement.proofs.states.State.step.Tie as tie
+
+is-accepted-requires : tie.Need-is-accepted-requires
+is-accepted-requires c κs = search needs
+
+refused-requires : tie.Need-refused-requires
+refused-requires c κs = search needs
+
+returns : tie.Need-returns
+returns c = c .refused .ensures ∙ step-unaccepted (c .before .before .before .args .list) (c .before .before .before .args .t1) (c .before .before .before .args .step) (ap (λ (a : Bool). a && stateAccepted (c .before .before .before .args .t1)) (sym (c .before .before .is-accepted .ensures) ∙ not-true _ (c .before .if1 .taken)))
+
+is-accepted-requires-2 : tie.Need-is-accepted-requires-2
+is-accepted-requires-2 c κs = search needs
+
+refused-requires-2 : tie.Need-refused-requires-2
+refused-requires-2 c κs = search needs
+
+returns-2 : tie.Need-returns-2
+unfolding stateAccepted
+returns-2 c = c .refused2 .ensures ∙ step-unaccepted (c .before .before .before .before .before .before .before .before .args .list) (c .before .before .before .before .before .before .before .before .args .t1) (c .before .before .before .before .before .before .before .before .args .step) (ap₂ (λ (a d : Bool). a && d) (sym (c .before .before .before .before .before .before .before .is-accepted .ensures) ∙ not-false _ (c .before .before .before .before .before .before .if1 .left)) (sym (c .before .before .is-accepted2 .ensures) ∙ not-true _ (c .before .if2 .taken)))
+
+decided-requires : tie.Need-decided-requires
+decided-requires c κs = accepted-length _ (sym (c .before .before .before .before .before .before .is-accepted .ensures) ∙ not-false _ (c .before .before .before .before .before .if1 .left))
+
+returns-3 : tie.Need-returns-3
+unfolding stateAccepted
+returns-3 c = c .decided .ensures ∙ step-accepted (c .before .before .before .before .before .before .before .before .args .list) (c .before .before .before .before .before .before .before .before .args .t1) (c .before .before .before .before .before .before .before .before .args .step) (ap₂ (λ (a d : Bool). a && d) (sym (c .before .before .before .before .before .before .before .is-accepted .ensures) ∙ not-false _ (c .before .before .before .before .before .before .if1 .left)) (sym (c .before .before .is-accepted2 .ensures) ∙ not-false _ (c .before .if2 .left)))
+
+pub step-spec : {M : Type 1} → statement M
+step-spec =
+    tie.close
+    (tie.spec
+    is-accepted-requires
+    refused-requires
+    returns
+    is-accepted-requires-2
+    refused-requires-2
+    returns-2
+    decided-requires
+    returns-3)

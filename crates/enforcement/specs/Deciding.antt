@@ -1,0 +1,130 @@
+-- What the code computes on the way to a decision. No reader has to believe these: each is only cited by a private contract, and what a
+-- step gives is stated by `stepOf`.
+-- Assumes nothing.
+use Prim.Native.Nat.{ℕ, suc, _+_, _^_, _≤_, _<_}
+use mathlib.Core.Path.{_≡_}
+use mathlib.Core.Bool.{Bool, true, not, cond, _&&_, _||_}
+use mathlib.Core.List.{List, []}
+use lib.Dec.{eqb, ltb}
+use lib.ListN.{length}
+use Rattle.sets.specs.Sets.{member, difference, subset, any, oneIf, count, setOf, unionOf}
+use Rattle.places.specs.Places.{sideHolds}
+use Rattle.places.specs.declared.Position.{Position}
+use Rattle.places.specs.declared.Side.{Side}
+use Rattle.rules.specs.Families.{View, wordAt, hasRole, sessionAt, holds}
+use Rattle.rules.specs.declared.families.Rule.{Rule}
+use Rattle.rules.specs.declared.sessions.Session.{Session}
+use Rattle.enforcement.specs.States.{isOpen, activeRole}
+use Rattle.enforcement.specs.Steps.{withActive, placed}
+use Rattle.enforcement.specs.Decisions.{Lowest, unbroken, broken, lowest, endedPairs, pairCount}
+use Rattle.enforcement.specs.Selection.{selects, selectedNumber}
+use Rattle.enforcement.specs.Gate.{testsSelected, keeps, stays, sifted, settled, remaining, refusedNext, requestNext}
+use Rattle.enforcement.specs.declared.states.State.{State}
+use Rattle.enforcement.specs.declared.steps.Action.{Action}
+use Rattle.enforcement.specs.declared.steps.Answer.the-variants.{Granted, Refused}
+use Rattle.enforcement.specs.declared.steps.Next.{Next}
+use Rattle.enforcement.specs.declared.judging.Found.{Found}
+use Rattle.enforcement.specs.declared.judging.Found.the-variants as found
+use Rattle.enforcement.specs.declared.judging.Judged.{Judged}
+use Rattle.enforcement.specs.declared.events.Plan.{Plan}
+use Rattle.enforcement.specs.declared.events.Left.{Left}
+
+-- ---- a request
+
+abbrev pub foundOf : Lowest → Found
+foundOf unbroken = found.Nothing
+foundOf (broken n) = found.Rule n
+
+-- the lowest broken one of the selected rules, and how many are selected
+unfoldable pub judgedOf : (Rule → Bool) → View → List Rule → Judged
+judgedOf selected v rules =
+    record {
+      broken = foundOf (lowest (λ rule. not (selected rule) || holds rule v) 1 rules);
+      selected = selectedNumber selected rules;
+    }
+
+abbrev pub orFound : Found → Bool → ℕ → Found
+orFound found.Nothing holds number = cond holds found.Nothing (found.Rule number)
+orFound (found.Rule n) holds number = found.Rule n
+
+-- one rule more
+unfoldable pub visited : Bool → Bool → Judged → ℕ → Judged
+visited isSelected holds judged number =
+    cond isSelected (record { broken = orFound (judged .broken) holds number; selected = judged .selected + 1 }) judged
+
+-- ---- an event
+
+-- the state as far as the rules that end roles read it
+abbrev pub context : List Session → List ℕ → ℕ → State
+context sessions active time = record { time = time; assigned = []; granted = []; sessions = sessions; active = active; history = [] }
+
+-- what is left of the active pairs, and how many rules are selected
+unfoldable pub leftOf : (Rule → Bool) → List Rule → State → Left
+leftOf selected rules s = record { active = remaining selected rules s; selected = selectedNumber selected rules }
+
+-- the number of roles of one set that the other has not
+pub record Fewer (before after n : ℕ) : Type 0 where
+  pub number : n ≡ count 32 (member (difference before after))
+  pub small : n ≤ 32
+
+-- the roles that are not dead and have all active that they need
+unfoldable pub stayingRoles : ℕ → List ℕ → ℕ → ℕ
+stayingRoles dead needs live = setOf 32 (λ r. not (member dead r) && subset (wordAt needs r) live)
+
+-- a plan lets role r stay in session i where the pairs of a list are active
+unfoldable pub lets : ℕ → List ℕ → List ℕ → List ℕ → ℕ → ℕ → Bool
+lets dead out needs l i r = not (hasRole out i r) && (not (member dead r) && subset (wordAt needs r) (unionOf 32 (wordAt l)))
+
+unfoldable pub planRound : ℕ → List ℕ → List ℕ → List ℕ → List ℕ
+planRound dead out needs l = sifted 0 (lets dead out needs l) l
+
+unfoldable pub planSettled : ℕ → List ℕ → List ℕ → List ℕ → List ℕ
+planSettled dead out needs l = settled (suc (pairCount l)) (planRound dead out needs) l
+
+-- a plan says of each active pair what the selected rules say, whatever pairs of roles in range are still active; and how many they are
+pub record Planned (selected : Rule → Bool) (rules : List Rule) (s : State) (plan : Plan) : Type 0 where
+  pub outs : length (plan .out) ≡ 32
+  pub lacks : length (plan .needs) ≡ 32
+  pub means : (l : List ℕ) → ((j : ℕ) → wordAt l j < 2 ^ 32) → (i r : ℕ) → i < 32 → r < 32 → activeRole s i r ≡ true → lets (plan .dead) (plan .out) (plan .needs) l i r ≡ stays selected rules s l i r
+  pub number : plan .selected ≡ selectedNumber selected rules
+
+-- a plan with one rule more
+pub record Adds (isSelected : Bool) (rule : Rule) (s : State) (before after : Plan) : Type 0 where
+  pub outs : length (after .out) ≡ 32
+  pub lacks : length (after .needs) ≡ 32
+  pub means : (l : List ℕ) → ((j : ℕ) → wordAt l j < 2 ^ 32) → (i r : ℕ) → i < 32 → r < 32 → activeRole s i r ≡ true →
+      lets (after .dead) (after .out) (after .needs) l i r ≡ (lets (before .dead) (before .out) (before .needs) l i r && (not isSelected || keeps rule s l i r))
+  pub number : after .selected ≡ before .selected + oneIf isSelected
+
+-- role r is ruled out in each of the first n sessions that has it active and is not positioned so
+pub record RuledOut (n : ℕ) (out : List ℕ) (sessions : List Session) (active : List ℕ) (r : ℕ) (side : Side) (more : List ℕ) : Type 0 where
+  pub sameLength : length more ≡ 32
+  pub means : (i q : ℕ) → i < 32 → q < 32 → hasRole more i q ≡ (hasRole out i q || (ltb i n && (eqb r q && (hasRole active i r && not (sideHolds side (sessionAt sessions i .position))))))
+
+-- ---- a step
+
+-- a request that has passed its checks, by its target
+unfoldable pub requestOf : List Rule → State → Action → State → Next
+requestOf rules s action after =
+    requestNext (selectedNumber (selects action) rules) s after (lowest (testsSelected (selects action) after) 1 rules)
+
+-- an event that has passed its checks, by the pairs active before it and its target
+unfoldable pub eventOf : List Rule → List ℕ → State → Action → Next
+eventOf rules before s action =
+    record {
+      state = withActive s (remaining (selects action) rules s);
+      answer = Granted (selectedNumber (selects action) rules) (pairCount (endedPairs before (remaining (selects action) rules s)));
+    }
+
+-- one of the roles of a set carries the permission
+unfoldable pub isCarried : List ℕ → ℕ → ℕ → Bool
+isCarried granted roles p = any 32 (λ r. member roles r && hasRole granted r p)
+
+-- a step that selects no rule and ends nothing
+abbrev pub plainNext : State → Next
+plainNext s = record { state = s; answer = Granted 0 0 }
+
+-- move and lost
+unfoldable pub placedOf : List Rule → State → Action → ℕ → Position → Next
+placedOf rules s action i position =
+    cond (isOpen s i) (eventOf rules (s .active) (placed s i position) action) (refusedNext s (Refused 23))

@@ -1,0 +1,47 @@
+// What 40 looks for in a state: a field outside its range, or a closed session that keeps anything.
+ghost use mathlib.Core.Path.{_≡_};
+ghost use Rattle.enforcement.specs.States.{isUnknown, sessionAccepted, stateAccepted};
+ghost use Rattle.enforcement.specs.Deciding.{context};
+use crate::states::State;
+use places::Position;
+use rules::Session;
+use sets::word32;
+
+// 40 does not refuse a state with these sessions, active roles and time; all else of a state is in range by its type.
+pub(crate) fn is_accepted(sessions: [Session; 32], active: &[u32; 32], time: u64) -> bool
+    ensures { λ r. ⌜ r ≡ stateAccepted (context sessions (now (active .entry)) time) ⌝ }
+{
+    if State::LAST_TIME < time {
+        return false;
+    }
+    let mut i: usize = 0;
+    'sessions: loop {
+        if i == 32 {
+            break 'sessions true;
+        }
+        let session = sessions[i];
+        if !session_accepted(session, active[i]) {
+            break 'sessions false;
+        }
+        i += 1;
+    }
+}
+
+fn session_accepted(session: Session, roles: u32) -> bool
+    ensures { λ r. ⌜ r ≡ sessionAccepted session roles ⌝ }
+{
+    let position = session.position;
+    if session.is_open {
+        return (session.user < 64) & position.in_range();
+    }
+    (session.user == 0) & (is_unknown(position) & word32::is_empty(roles))
+}
+
+fn is_unknown(position: Position) -> bool
+    ensures { λ r. ⌜ r ≡ isUnknown position ⌝ }
+{
+    match position {
+        Position::Unknown => true,
+        Position::Known(_) => false,
+    }
+}

@@ -1,0 +1,279 @@
+// What an event ends: one pass over the rules makes a plan, then rounds on sets of roles until nothing changes.
+ghost use mathlib.Core.Path.{_≡_};
+ghost use mathlib.Core.Bool.{true};
+ghost use Prim.Native.Nat.{_<_, _≤_};
+ghost use lib.ListN.{length};
+ghost use Rattle.rules.specs.Acceptance.{rulesOf};
+ghost use Rattle.enforcement.specs.Decisions.{endedPairs, pairCount};
+ghost use Rattle.enforcement.specs.Selection.{selects};
+ghost use Rattle.enforcement.specs.Gate.{sameLists};
+ghost use Rattle.enforcement.specs.Deciding.{context, leftOf, Fewer, Planned, Adds, RuledOut, stayingRoles, planRound, planSettled};
+use crate::selection::selects;
+use crate::steps::Action;
+use places::Side;
+use rules::Rule;
+use rules::RuleList;
+use rules::Session;
+use rules::tests::active_somewhere;
+use sets::word32;
+
+// What the selected rules say of each pair, whatever else is active.
+pub struct Plan {
+    // The roles that `during` rules out, and those that need a role past the last.
+    pub dead: u32,
+    // Of each session the active roles that `at` rules out.
+    pub out: [u32; 32],
+    // Of each role the roles that it needs.
+    pub needs: [u32; 32],
+    pub selected: usize,
+}
+
+// What is left of the active pairs once the rules that an event selects hold, and how many rules it selects.
+pub struct Left {
+    pub active: [u32; 32],
+    pub selected: usize,
+}
+
+pub(crate) fn end_roles(
+    list: RuleList,
+    action: Action,
+    sessions: [Session; 32],
+    active: &[u32; 32],
+    time: u64,
+) -> Left
+    requires { ⌜ (list .length ≤ 128) × (length (now active) ≡ 32) ⌝ }
+    ensures { λ r. ⌜ r ≡ leftOf (selects action) (rulesOf list) (context sessions (now (active .entry)) time) ⌝ }
+{
+    let plan = plan_of(list, action, sessions, active, time);
+    let dead = plan.dead;
+    let kept = settled(copied(active), &plan.out, &plan.needs, dead);
+    Left {
+        active: kept,
+        selected: plan.selected,
+    }
+}
+
+// The pairs active before and not after.
+pub(crate) fn ended<'a>(before: &'a [u32; 32], after: &'a [u32; 32]) -> usize
+    requires { ⌜ (length (now before) ≡ 32) × (length (now after) ≡ 32) ⌝ }
+    ensures { λ r. ⌜ r ≡ pairCount (endedPairs (now (before .entry)) (now (after .entry))) ⌝ }
+{
+    let mut total: usize = 0;
+    for i in 0..32 {
+        total += fewer(before[i], after[i]);
+    }
+    total
+}
+
+// The roles of one set that the other has not.
+pub(crate) fn fewer(before: u32, after: u32) -> usize
+    ensures { λ r. ⌜ Fewer before after r ⌝ }
+{
+    word32::count(word32::difference(before, after)) as usize
+}
+
+// ---- the plan
+
+fn plan_of(
+    list: RuleList,
+    action: Action,
+    sessions: [Session; 32],
+    active: &[u32; 32],
+    time: u64,
+) -> Plan
+    requires { ⌜ list .length ≤ 128 ⌝ }
+    ensures { λ r. ⌜ Planned (selects action) (rulesOf list) (context sessions (now (active .entry)) time) r ⌝ }
+{
+    let length = list.length;
+    let mut plan = Plan {
+        dead: 0,
+        out: [0; 32],
+        needs: [0; 32],
+        selected: 0,
+    };
+    let mut i: usize = 0;
+    while i < length {
+        let slot = list.slots[i];
+        let rule = slot.rule;
+        plan = consider(plan, rule, action, sessions, active, time);
+        i += 1;
+    }
+    plan
+}
+
+// One rule more, where it is selected.
+fn consider(
+    plan: Plan,
+    rule: Rule,
+    action: Action,
+    sessions: [Session; 32],
+    active: &[u32; 32],
+    time: u64,
+) -> Plan
+    requires { ⌜ (length (plan .out) ≡ 32) × (length (plan .needs) ≡ 32) × (plan .selected < 128) ⌝ }
+    ensures { λ r. ⌜ Adds (selects action rule) rule (context sessions (now (active .entry)) time) plan r ⌝ }
+{
+    if selects(action, rule) {
+        return with_rule(plan, rule, sessions, active, time);
+    }
+    plan
+}
+
+fn with_rule(
+    mut plan: Plan,
+    rule: Rule,
+    sessions: [Session; 32],
+    active: &[u32; 32],
+    time: u64,
+) -> Plan
+    requires { ⌜ (length (plan .out) ≡ 32) × (length (plan .needs) ≡ 32) × (plan .selected < 128) ⌝ }
+    ensures { λ r. ⌜ Adds true rule (context sessions (now (active .entry)) time) plan r ⌝ }
+{
+    plan.selected = plan.selected + 1;
+    match rule {
+        Rule::Dependency { role, needed } => {
+            // No role past the last is ever active.
+            if Rule::ROLES <= needed {
+                plan.dead = word32::with(plan.dead, role as usize);
+                return plan;
+            }
+            if Rule::ROLES <= role {
+                return plan;
+            }
+            let i = role as usize;
+            let roles = plan.needs[i];
+            plan.needs[i] = word32::with(roles, needed as usize);
+            plan
+        }
+        Rule::TimeContext { role, term } => {
+            if term.holds(time) {
+                return plan;
+            }
+            plan.dead = word32::with(plan.dead, role as usize);
+            plan
+        }
+        Rule::LocationContext { role, side } => {
+            let out = plan.out;
+            let more = rule_out(out, sessions, active, role as usize, side);
+            plan.out = more;
+            plan
+        }
+        Rule::Prerequisite {
+            role: _,
+            required: _,
+        } => plan,
+        Rule::MaxUsers { role: _, limit: _ } => plan,
+        Rule::MaxRoles { limit: _ } => plan,
+        Rule::MaxPermissions { role: _, limit: _ } => plan,
+        Rule::MaxActive { limit: _ } => plan,
+        Rule::StaticSeparation {
+            first: _,
+            second: _,
+        } => plan,
+        Rule::DynamicSeparation {
+            first: _,
+            second: _,
+        } => plan,
+        Rule::HistorySeparation {
+            first: _,
+            second: _,
+        } => plan,
+        Rule::BindingOfDuty {
+            first: _,
+            second: _,
+        } => plan,
+    }
+}
+
+// The role is ruled out in each session that has it active and is not positioned so.
+fn rule_out(
+    out: [u32; 32],
+    sessions: [Session; 32],
+    active: &[u32; 32],
+    role: usize,
+    side: Side,
+) -> [u32; 32]
+    requires { ⌜ length out ≡ 32 ⌝ }
+    ensures { λ r. ⌜ RuledOut 32 out sessions (now (active .entry)) role side r ⌝ }
+{
+    let mut more = out;
+    for i in 0..32 {
+        let session = sessions[i];
+        let position = session.position;
+        if word32::member(active[i], role) & !side.holds(position) {
+            let roles = more[i];
+            more[i] = word32::with(roles, role);
+        }
+    }
+    more
+}
+
+// ---- the rounds
+
+// The sets by value: then each is known to fit its word.
+fn copied(active: &[u32; 32]) -> [u32; 32]
+    ensures { λ r. ⌜ r ≡ now (active .entry) ⌝ }
+{
+    *active
+}
+
+// Rounds until nothing changes.
+fn settled<'a>(active: [u32; 32], out: &'a [u32; 32], needs: &'a [u32; 32], dead: u32) -> [u32; 32]
+    ensures { λ r. ⌜ r ≡ planSettled dead (now (out .entry)) (now (needs .entry)) active ⌝ }
+{
+    let mut kept = active;
+    loop {
+        let less = round(&kept, out, needs, dead);
+        if is_same(&kept, &less) {
+            return kept;
+        }
+        kept = less;
+    }
+}
+
+// One round: each pair stays that the plan lets stay where these pairs are active.
+fn round<'a>(
+    active: &'a [u32; 32],
+    out: &'a [u32; 32],
+    needs: &'a [u32; 32],
+    dead: u32,
+) -> [u32; 32]
+    requires { ⌜ length (now active) ≡ 32 ⌝ }
+    ensures { λ r. ⌜ r ≡ planRound dead (now (out .entry)) (now (needs .entry)) (now (active .entry)) ⌝ }
+{
+    let staying = staying_roles(needs, dead, active_somewhere(active));
+    let mut less = [0u32; 32];
+    for i in 0..32 {
+        less[i] = word32::difference(word32::intersection(active[i], staying), out[i]);
+    }
+    less
+}
+
+// The roles that are not dead and have all active that they need.
+fn staying_roles(needs: &[u32; 32], dead: u32, live: u32) -> u32
+    ensures { λ r. ⌜ r ≡ stayingRoles dead (now (needs .entry)) live ⌝ }
+{
+    let mut staying: u32 = 0;
+    for role in 0..32 {
+        if !word32::member(dead, role) & word32::is_subset(needs[role], live) {
+            staying = word32::with(staying, role);
+        }
+    }
+    staying
+}
+
+fn is_same<'a>(a: &'a [u32; 32], b: &'a [u32; 32]) -> bool
+    requires { ⌜ (length (now a) ≡ 32) × (length (now b) ≡ 32) ⌝ }
+    ensures { λ r. ⌜ r ≡ sameLists (now (a .entry)) (now (b .entry)) ⌝ }
+{
+    let mut i: usize = 0;
+    'sessions: loop {
+        if i == 32 {
+            break 'sessions true;
+        }
+        if a[i] != b[i] {
+            break 'sessions false;
+        }
+        i += 1;
+    }
+}
