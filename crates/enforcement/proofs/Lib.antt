@@ -20,3 +20,5 @@ pub mod Planning
 pub mod Settling
 pub mod Requests
 pub mod Answering
+pub mod AnswerFits
+pub mod Running

@@ -9,3 +9,4 @@ pub mod Narrow
 pub mod Table
 pub mod Deciding
 pub mod Words
+pub mod Runs

@@ -2,11 +2,14 @@
 mod acceptance;
 mod events;
 mod judging;
+mod runs;
 pub mod selection;
 pub mod states;
 pub mod steps;
 
 pub use rules::Session;
+pub use runs::Ran;
+pub use runs::run;
 pub use states::State;
 pub use steps::Action;
 pub use steps::Answer;

@@ -2,7 +2,6 @@
 -- Assumes nothing.
 use Rattle.enforcement.proofs.Requests.{ended-one}
 use mathlib.Core.Path.{_∙_}
-use mathlib.Core.Path.{sym}
 use lib.Seq.{set-set, set-getD}
 use Rattle.enforcement.proofs.Requests.{request-granted, request-broken}
 use borrow.Author.Needs.{needs}
