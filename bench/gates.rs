@@ -1,5 +1,6 @@
-// Two gates written from document 01 and nothing else, to compare with: the plain gate, which tests every rule over the whole
-// state at each step, and one that tests only the rules that the table selects. Both keep one state that is lent to them.
+// Two gates after document 01, to compare with: the plain gate, which tests every rule over the whole state at each step, and one
+// that tests only the rules that the table selects. Both keep one state that is lent to them. They share no code with crates/; an
+// answer's number has the form of `Answer::word`.
 //
 //     gates LIST BATCHES plain|selecting|generate
 //
