@@ -42,7 +42,7 @@ module _ (test : Rule → Bool) where
       go true h = h ∙ ap (orLowest (lowest test (suc k) (firstRules n slots)) (test (ruleOf (getD slots n filler)))) (suc-add k n ∙ sym (add-suc k n))
       go false h = refl
 
-  number-more : (slots : List Slot) (n : ℕ) (filler : Slot) → n < length slots → selectedNumber test (firstRules (suc n) slots) ≡ selectedNumber test (firstRules n slots) + oneIf (test (ruleOf (getD slots n filler)))
+  pub number-more : (slots : List Slot) (n : ℕ) (filler : Slot) → n < length slots → selectedNumber test (firstRules (suc n) slots) ≡ selectedNumber test (firstRules n slots) + oneIf (test (ruleOf (getD slots n filler)))
   unfolding selectedNumber
   number-more [] n filler l = absurd (omega arith)
   number-more (slot ∷ slots) zero filler l = omega arith

@@ -12,7 +12,7 @@ use native.Mathlib.Numerals.{add-one}
 use lib.Dec.{eqb, ltb}
 use lib.ListN.{length, getD, replicate, length-set, length-replicate, getD-replicate}
 use borrow.Author.Tests.{eq-eqb, ne-eqb, eqb-true, lt-ltb, le-ltb}
-use Rattle.sets.specs.Sets.{member, with, subset, any, oneIf, unionOf}
+use Rattle.sets.specs.Sets.{member, with, subset, any, unionOf}
 use Rattle.sets.proofs.Booleans.{clash, both-true, left-true, right-true, left-or, right-or, of-or, not-so, same-test}
 use Rattle.sets.proofs.Bounded.{of-any}
 use Rattle.sets.proofs.Members.{member-empty, member-with}
@@ -36,7 +36,7 @@ use Rattle.enforcement.specs.Deciding.{lets, Planned, Adds, RuledOut}
 use Rattle.enforcement.specs.declared.states.State.{State}
 use Rattle.enforcement.specs.declared.events.Plan.{Plan}
 use Rattle.enforcement.proofs.Words.{set-at, has-put}
-use Rattle.enforcement.proofs.Judgement.{firstRules, number-le}
+use Rattle.enforcement.proofs.Judgement.{firstRules, number-more, number-le}
 
 -- ---- a role ruled out session by session
 
@@ -251,12 +251,6 @@ module _ (test : Rule → Bool) where
       joined : (x y z : Bool) → (x && (y && z)) ≡ ((x && y) && z)
       joined true y z = refl
       joined false y z = refl
-
-  number-more : (slots : List Slot) (n : ℕ) (filler : Slot) → n < length slots → selectedNumber test (firstRules (suc n) slots) ≡ selectedNumber test (firstRules n slots) + oneIf (test (ruleOf (getD slots n filler)))
-  unfolding selectedNumber
-  number-more [] n filler l = absurd (omega arith)
-  number-more (slot ∷ slots) zero filler l = omega arith
-  number-more (slot ∷ slots) (suc n) filler l = let h = number-more slots n filler (omega arith) in omega arith
 
 module _ (selected : Rule → Bool) (s : State) (slots : List Slot) where
   pub planned-none : Planned selected (firstRules 0 slots) s (record { dead = 0; out = replicate 32 0; needs = replicate 32 0; selected = 0 })
