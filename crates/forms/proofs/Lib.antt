@@ -1,0 +1,10 @@
+pub mod Digits
+pub mod FixedDigits
+pub mod Reading
+pub mod Marks
+pub mod Matching
+pub mod Finding
+pub mod Puts
+pub mod Turns
+pub mod Lines
+pub mod Signs

@@ -1,0 +1,12 @@
+-- `forms::numbers::is_digit` meets its contract. Assumes nothing.
+use mathlib.Core.Path.{refl}
+use Rattle.forms.specs.Numbers.{isDigit}
+use Rattle.forms.proofs.numbers.is_digit.Statement.{statement}
+use Rattle.forms.proofs.numbers.is_digit.Tie as tie
+
+returns : tie.Need-returns
+unfolding isDigit
+returns c = refl
+
+pub is-digit-spec : {M : Type 1} → statement M
+is-digit-spec = tie.close (tie.spec returns)

@@ -1,0 +1,102 @@
+-- `forms::writing::put_item` meets its contract. Assumes nothing.
+use Rattle.forms.specs.Forms.{textBy}
+use Rattle.forms.specs.declared.kinds.Syntax.the-variants as syntax
+use Rattle.forms.proofs.Marks.{kind-text}
+use Rattle.forms.proofs.Puts.{like}
+use borrow.Author.Needs.{needs}
+use Rattle.forms.proofs.writing.put_item.Statement.{statement}
+use Rattle.forms.proofs.writing.put_item.Tie as tie
+
+kind-of-requires : tie.Need-kind-of-requires
+kind-of-requires c κs = search needs
+
+enum-told : tie.Need-enum-told
+enum-told c = search needs
+
+put-requires : tie.Need-put-requires
+put-requires c κs = search needs
+
+enum-told-2 : tie.Need-enum-told-2
+enum-told-2 c = search needs
+
+put-number-requires : tie.Need-put-number-requires
+put-number-requires c κs = search needs
+
+enum-told-3 : tie.Need-enum-told-3
+enum-told-3 c = search needs
+
+put-signed-requires : tie.Need-put-signed-requires
+put-signed-requires c κs = search needs
+
+enum-told-4 : tie.Need-enum-told-4
+enum-told-4 c = search needs
+
+put-fixed-requires : tie.Need-put-fixed-requires
+put-fixed-requires c κs = search needs
+
+enum-told-5 : tie.Need-enum-told-5
+enum-told-5 c = search needs
+
+put-fixed-requires-2 : tie.Need-put-fixed-requires-2
+put-fixed-requires-2 c κs = search needs
+
+same-length : tie.Need-same-length
+same-length c = search needs
+
+returns : tie.Need-returns
+unfolding textBy
+returns c = like (kind-text _ _ syntax.Literal (c .before .before .before .before .before .before .kind-of .ensures) (c .before .before .before .before .enum-told .given .1) _) (c .before .before .put .ensures)
+
+same-length-2 : tie.Need-same-length-2
+same-length-2 c = search needs
+
+returns-2 : tie.Need-returns-2
+unfolding textBy
+returns-2 c = like (kind-text _ _ syntax.Number (c .before .before .before .before .before .before .kind-of .ensures) (c .before .before .before .before .enum-told2 .given .1) _) (c .before .before .put-number .ensures)
+
+same-length-3 : tie.Need-same-length-3
+same-length-3 c = search needs
+
+returns-3 : tie.Need-returns-3
+unfolding textBy
+returns-3 c = like (kind-text _ _ syntax.Signed (c .before .before .before .before .before .before .kind-of .ensures) (c .before .before .before .before .enum-told3 .given .1) _) (c .before .before .put-signed .ensures)
+
+same-length-4 : tie.Need-same-length-4
+same-length-4 c = search needs
+
+returns-4 : tie.Need-returns-4
+unfolding textBy
+returns-4 c = like (kind-text _ _ syntax.Date (c .before .before .before .before .before .before .kind-of .ensures) (c .before .before .before .before .enum-told4 .given .1) _) (c .before .before .put-fixed .ensures)
+
+same-length-5 : tie.Need-same-length-5
+same-length-5 c = search needs
+
+returns-5 : tie.Need-returns-5
+unfolding textBy
+returns-5 c = like (kind-text _ _ syntax.TimeOfDay (c .before .before .before .before .before .before .kind-of .ensures) (c .before .before .before .before .enum-told5 .given .1) _) (c .before .before .put-fixed2 .ensures)
+
+pub put-item-spec : {M : Type 1} → statement M
+put-item-spec =
+    tie.close
+    (tie.spec
+    kind-of-requires
+    enum-told
+    put-requires
+    enum-told-2
+    put-number-requires
+    enum-told-3
+    put-signed-requires
+    enum-told-4
+    put-fixed-requires
+    enum-told-5
+    put-fixed-requires-2
+    same-length
+    returns
+    same-length-2
+    returns-2
+    same-length-3
+    returns-3
+    same-length-4
+    returns-4
+    same-length-5
+    returns-5)

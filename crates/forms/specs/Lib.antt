@@ -1,0 +1,5 @@
+pub mod Numbers
+pub mod Kinds
+pub mod Forms
+pub mod Tables
+pub mod Writing

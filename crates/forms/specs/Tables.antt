@@ -1,0 +1,92 @@
+-- A table of forms: a text, each of whose lines is a form. Assumes nothing.
+use Prim.Native.Nat.{ℕ, zero, suc, _+_}
+use Prim.Native.Char.{code}
+use Prim.Native.String.{String, len, charAt}
+use mathlib.Core.Bool.{Bool, true, false, cond, _&&_, not}
+use mathlib.Core.List.{List, [], _∷_}
+use lib.ListN.{length, drop, getD, replicate}
+use lib.Dec.{eqb, leb}
+use Rattle.forms.specs.Numbers.{isDigit}
+use Rattle.forms.specs.Kinds.{isSlot}
+use Rattle.forms.specs.Forms.{scan, scanned}
+use Rattle.forms.specs.declared.scanning.Scanned.{Scanned}
+use Rattle.forms.specs.declared.tables.Found.{Found}
+
+-- ---- bytes and lines
+
+abbrev pub bytesFrom : ℕ → ℕ → String → List ℕ
+bytesFrom zero i s = []
+bytesFrom (suc n) i s = code (charAt s i) ∷ bytesFrom n (suc i) s
+
+-- the bytes of a text
+abbrev pub bytes : String → List ℕ
+bytes s = bytesFrom (len s) 0 s
+
+abbrev pub onFirst : ℕ → List (List ℕ) → List (List ℕ)
+onFirst c [] = (c ∷ []) ∷ []
+onFirst c (l ∷ ls) = (c ∷ l) ∷ ls
+
+-- its lines, each with the line feed that ends it
+unfoldable pub linesIn : List ℕ → List (List ℕ)
+linesIn [] = []
+linesIn (c ∷ t) = cond (eqb c 10) ((c ∷ []) ∷ linesIn t) (onFirst c (linesIn t))
+
+-- the bytes of the first line
+unfoldable pub lineEnd : List ℕ → ℕ
+lineEnd [] = 0
+lineEnd (c ∷ t) = cond (eqb c 10) 1 (suc (lineEnd t))
+
+-- where line i starts; past the last line, the end
+unfoldable pub lineStart : List ℕ → ℕ → ℕ
+lineStart t zero = 0
+lineStart t (suc i) = lineEnd t + lineStart (drop (lineEnd t) t) i
+
+unfoldable pub formAt : List ℕ → ℕ → List ℕ
+formAt table i = getD (linesIn table) i []
+
+-- ---- the first form that stands at the front of a text; where none does, the number of forms
+
+abbrev pub foundAs : ℕ → Scanned → Found
+foundAs i r = record { form = i; values = r .values; length = r .length }
+
+abbrev pub noForm : ℕ → Found
+noForm i = record { form = i; values = replicate 6 0; length = 0 }
+
+unfoldable pub findIn : List (List ℕ) → ℕ → List ℕ → Found
+findIn [] i s = noForm i
+findIn (t ∷ ts) i s = cond (scanned (scan t s) .matches) (foundAs i (scanned (scan t s))) (findIn ts (suc i) s)
+
+unfoldable pub found : List ℕ → List ℕ → Found
+found table s = findIn (linesIn table) 0 s
+
+-- ---- a table whose forms can be told from their texts, as a computed test
+
+-- how many numbers a form has
+abbrev pub slots : List ℕ → ℕ
+slots [] = 0
+slots (c ∷ t) = cond (isSlot c) (suc (slots t)) (slots t)
+
+-- a form goes on with a byte that is neither a digit nor a number
+abbrev pub goesOnPlain : List ℕ → Bool
+goesOnPlain [] = false
+goesOnPlain (c ∷ t) = not (isSlot c) && not (isDigit c)
+
+-- each number of a form is followed by such a byte
+abbrev pub parted : List ℕ → Bool
+parted [] = true
+parted (c ∷ t) = cond (isSlot c) (goesOnPlain t) true && parted t
+
+-- two forms differ at a byte of both, and are the same up to there
+abbrev pub apart : List ℕ → List ℕ → Bool
+apart [] u = false
+apart (c ∷ t) [] = false
+apart (c ∷ t) (d ∷ u) = cond (eqb c d) (apart t u) (not (isSlot c) && not (isSlot d))
+
+abbrev pub apartFromAll : List ℕ → List (List ℕ) → Bool
+apartFromAll t [] = true
+apartFromAll t (u ∷ us) = apart t u && apartFromAll t us
+
+-- numbers are parted, there are at most six of them, and no two forms have a text in common
+abbrev pub distinct : List (List ℕ) → Bool
+distinct [] = true
+distinct (t ∷ ts) = (parted t && leb (slots t) 6) && (apartFromAll t ts && distinct ts)

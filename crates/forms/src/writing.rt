@@ -1,0 +1,114 @@
+// A form with its values, written into a lent list. A byte past the list's end is left out, so that writing into an empty part measures.
+ghost use mathlib.Core.Path.{_≡_};
+ghost use mathlib.Core.List.{_∷_, []};
+ghost use Prim.Native.Nat.{_<_, _^_, _≤_};
+ghost use lib.ListN.{length, getD};
+ghost use Rattle.forms.specs.Numbers.{digitsOf, signedOf, fixedOf};
+ghost use Rattle.forms.specs.Kinds.{isSlot};
+ghost use Rattle.forms.specs.Forms.{itemText, fill, advance};
+ghost use Rattle.forms.specs.Writing.{Wrote};
+use crate::kinds::Kind;
+use crate::kinds::Syntax;
+use crate::kinds::is_slot;
+use crate::kinds::kind_of;
+use crate::numbers::Number;
+
+// The text's length, or the number of a refusal.
+pub enum Written {
+    Length(usize),
+    Refused(u64),
+}
+
+// The form with its values, from place `at` on; where it ends.
+pub(crate) fn put_form(form: &[u8], values: &[u64], out: &mut [u8], at: usize) -> usize
+    ensures { λ r. ⌜ Wrote (now (out .entry)) at (fill (now (form .entry)) (now (values .entry))) r (now (out .exit)) ⌝ }
+{
+    let mut place = at;
+    let mut count: usize = 0;
+    let mut i: usize = 0;
+    while i < form.len() {
+        let mark = form[i];
+        place = put_item(mark, value_at(values, count), out, place);
+        count = advanced(mark, count);
+        i += 1;
+    }
+    place
+}
+
+// One byte of a form, with the value that it stands for.
+fn put_item(mark: u8, value: u64, out: &mut [u8], at: usize) -> usize
+    ensures { λ r. ⌜ Wrote (now (out .entry)) at (itemText mark value) r (now (out .exit)) ⌝ }
+{
+    let kind = kind_of(mark);
+    let syntax = kind.syntax;
+    match syntax {
+        Syntax::Literal => put(mark, out, at),
+        Syntax::Number => put_number(value, out, at),
+        Syntax::Signed => put_signed(value, out, at),
+        Syntax::Date => put_fixed(8, value, out, at),
+        Syntax::TimeOfDay => put_fixed(4, value, out, at),
+    }
+}
+
+fn put_number(value: u64, out: &mut [u8], at: usize) -> usize
+    ensures { λ r. ⌜ Wrote (now (out .entry)) at (digitsOf value) r (now (out .exit)) ⌝ }
+{
+    if value < 10 {
+        return put((48 + value) as u8, out, at);
+    }
+    let place = put_number(value / 10, out, at);
+    put((48 + value % 10) as u8, out, place)
+}
+
+fn put_signed(value: u64, out: &mut [u8], at: usize) -> usize
+    ensures { λ r. ⌜ Wrote (now (out .entry)) at (signedOf value) r (now (out .exit)) ⌝ }
+{
+    if Number::MINUS < value {
+        let place = put(b'-', out, at);
+        return put_number(value - Number::MINUS, out, place);
+    }
+    put_number(value, out, at)
+}
+
+fn put_fixed(count: usize, value: u64, out: &mut [u8], at: usize) -> usize
+    ensures { λ r. ⌜ Wrote (now (out .entry)) at (fixedOf count value) r (now (out .exit)) ⌝ }
+{
+    if count == 0 {
+        return at;
+    }
+    let place = put_fixed(count - 1, value / 10, out, at);
+    put((48 + value % 10) as u8, out, place)
+}
+
+fn put(byte: u8, out: &mut [u8], at: usize) -> usize
+    ensures { λ r. ⌜ Wrote (now (out .entry)) at (byte ∷ []) r (now (out .exit)) ⌝ }
+{
+    if at < out.len() {
+        out[at] = byte;
+        return at + 1;
+    }
+    if at == 18_446_744_073_709_551_615 {
+        return at;
+    }
+    at + 1
+}
+
+// The value of the slot that comes next.
+pub(crate) fn value_at(values: &[u64], count: usize) -> u64
+    ensures { λ r. ⌜ r ≡ getD (now (values .entry)) count 0 ⌝ }
+{
+    if count < values.len() {
+        return values[count];
+    }
+    0
+}
+
+pub(crate) fn advanced(mark: u8, count: usize) -> usize
+    requires { ⌜ count < 18446744073709551615 ⌝ }
+    ensures { λ r. ⌜ r ≡ advance (isSlot mark) count ⌝ }
+{
+    if is_slot(mark) {
+        return count + 1;
+    }
+    count
+}
