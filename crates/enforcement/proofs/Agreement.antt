@@ -43,7 +43,7 @@ lowest-same given p q f n (rule ∷ rules) e =
     let x = both (given rule) (every given rules) e in
     ap₂ (λ (b : Bool) (rest : Lowest). cond b rest (broken n)) (f rule (x .0)) (lowest-same given p q f (suc n) rules (x .1))
 
-lowest-none : (test : Rule → Bool) (n : ℕ) (rules : List Rule) → lowest test n rules ≡ unbroken → every test rules ≡ true
+pub lowest-none : (test : Rule → Bool) (n : ℕ) (rules : List Rule) → lowest test n rules ≡ unbroken → every test rules ≡ true
 unfolding every lowest
 lowest-none test n [] e = refl
 lowest-none test n (rule ∷ rules) e = go (test rule) e (lowest-none test (suc n) rules)

@@ -274,7 +274,7 @@ held-part s l held part = λ i r e. held i r (part .within i r e)
 
 -- ---- the fresh state
 
-same-everywhere : {A : Type 0} (n i : ℕ) (x : A) → getD (replicate n x) i x ≡ x
+pub same-everywhere : {A : Type 0} (n i : ℕ) (x : A) → getD (replicate n x) i x ≡ x
 same-everywhere zero i x = refl
 same-everywhere (suc n) zero x = refl
 same-everywhere (suc n) (suc i) x = same-everywhere n i x

@@ -7,6 +7,17 @@ use places::Position;
 use rules::Session;
 use sets::word32;
 
+impl State {
+    // 40 does not refuse the state.
+    pub fn is_accepted(self) -> bool
+        ensures { λ r. ⌜ r ≡ stateAccepted self ⌝ }
+    {
+        let sessions = self.sessions;
+        let time = self.time;
+        is_accepted(sessions, &self.active, time)
+    }
+}
+
 // 40 does not refuse a state with these sessions, active roles and time; all else of a state is in range by its type.
 pub(crate) fn is_accepted(sessions: [Session; 32], active: &[u32; 32], time: u64) -> bool
     ensures { λ r. ⌜ r ≡ stateAccepted (context sessions (now (active .entry)) time) ⌝ }

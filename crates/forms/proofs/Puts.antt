@@ -20,6 +20,7 @@ use Rattle.forms.specs.declared.kinds.Syntax.{Syntax}
 use Rattle.forms.specs.declared.kinds.Syntax.the-variants as syntax
 use Rattle.forms.proofs.Digits.{digits-small, digits-step}
 use Rattle.forms.proofs.FixedDigits.{fixed-length}
+use Rattle.forms.proofs.Matching.{item-pos}
 
 -- ---- places
 
@@ -143,7 +144,7 @@ placed {k} {x} {q} {k′} m l f e w h {r} {l′} v =
 
 -- ---- how long a form's text is
 
-digits-length : (k v : ℕ) → v < 10 ^ suc k → length (digitsOf v) ≤ suc k
+pub digits-length : (k v : ℕ) → v < 10 ^ suc k → length (digitsOf v) ≤ suc k
 digits-length zero v h = rw (digits-small v (omega arith)) (omega arith)
 digits-length (suc k) v h = go (ltb v 10) refl (digits-length k (v / 10))
   where
@@ -180,3 +181,10 @@ fill-length (c ∷ t) ws h =
   where
     item-length : (c v : ℕ) → fitsBy (syntaxOf c) v ≡ true → length (itemText c v) ≤ 11
     item-length c v h = unfold itemText in by-length (syntaxOf c) c v h
+
+-- each byte of a form stands for one at least
+pub fill-least : (t ws : List ℕ) → length t ≤ length (fill t ws)
+unfolding fill
+fill-least [] ws = omega arith
+fill-least (c ∷ t) ws =
+    rw length-append (omega (arith, item-pos c (head ws), fill-least t (left (isSlot c) ws)))

@@ -1,0 +1,13 @@
+pub mod Marks
+pub mod Coordinates
+pub mod Values
+pub mod Ranges
+pub mod Inverse
+pub mod Causes
+pub mod Lists
+pub mod Prefixes
+pub mod Slots
+pub mod Loaded
+pub mod Back
+pub mod Texts
+pub mod Room

@@ -1,0 +1,63 @@
+-- `rule_text::writing::put_rules` meets its contract.
+-- Assumes nothing.
+use mathlib.Core.Path.{_≡_, sym, _∙_}
+use Prim.Native.Nat.{_-_}
+use native.Mathlib.Omega.{arith}
+use lib.ListN.{length, length-map}
+use borrow.Author.Needs.{needs}
+use Rattle.rule_text.proofs.Texts.{Inv, start, turn, end, same-size}
+use Rattle.rule_text.proofs.writing.put_rules.Statement.{statement}
+use Rattle.rule_text.proofs.writing.put_rules.Tie as tie
+
+abbrev Inv-loop : tie.InvT-loop
+Inv-loop out₀ list length at₀ i₀ out at i = Inv out₀ list out at i
+
+abbrev μ-loop : tie.MeasureT-loop
+μ-loop out₀ list length at₀ i₀ out at i = length - i
+
+-- The type fixes the number of slots.
+slots-length : (c : tie.Start Inv-loop μ-loop) → length (c .args .t1 .slots) ≡ 128
+slots-length c = sym (length-map (c .args .t1 .slots) _) ∙ c .good .0 .1 .1 .0 .1 .0 .1
+
+loop-holds : tie.Need-loop-holds Inv-loop μ-loop
+loop-holds c = start _ _
+
+mul-slot : tie.Need-mul-slot Inv-loop μ-loop
+mul-slot c = search needs
+
+element-copy-out-slot : tie.Need-element-copy-out-slot Inv-loop μ-loop
+element-copy-out-slot c = search needs
+
+add-i : tie.Need-add-i Inv-loop μ-loop
+add-i c = search needs
+
+put-rule-requires : tie.Need-put-rule-requires Inv-loop μ-loop
+put-rule-requires c κs = search needs
+
+loop-less : tie.Need-loop-less Inv-loop μ-loop
+loop-less c = search needs
+
+loop-again : tie.Need-loop-again Inv-loop μ-loop
+loop-again c = turn (c .before .before .before .before .before .before .loop .inv) (omega arith) (slots-length (c .before .before .before .before .before .before .before .before)) (omega arith) (omega arith) _ (c .before .before .put-rule .ensures)
+
+same-length : tie.Need-same-length Inv-loop μ-loop
+same-length c = same-size (c .before .loop .inv)
+
+returns : tie.Need-returns Inv-loop μ-loop
+returns c = end (c .before .loop .inv) (omega arith)
+
+pub put-rules-spec : {M : Type 1} → statement M
+put-rules-spec =
+    tie.close
+    (tie.spec
+    Inv-loop
+    μ-loop
+    loop-holds
+    mul-slot
+    element-copy-out-slot
+    add-i
+    put-rule-requires
+    loop-less
+    loop-again
+    same-length
+    returns)

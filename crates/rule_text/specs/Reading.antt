@@ -1,0 +1,109 @@
+-- Document 01, 'Texts' and 'Refused': what reading a rule list gives. "For each text line in order 10, 11, 12, 13, 14 (rules)"; "the
+-- first bad line counts". What each refusal says of the text is proved in proofs/Causes.antt.
+-- Assumes nothing.
+use mathlib.Core.Path.{_≡_}
+use mathlib.Core.Bool.{cond, not}
+use mathlib.Core.List.{List, [], _∷_, map}
+use Prim.Native.Nat.{ℕ, zero, suc, _+_, _≤_, _<_}
+use lib.ListN.{length, drop, getD, replicate}
+use lib.Seq.{sets}
+use lib.Dec.{eqb}
+use Rattle.forms.specs.Forms.{allInRange}
+use Rattle.forms.specs.Tables.{formAt, found}
+use Rattle.forms.specs.declared.tables.Found.{Found}
+use Rattle.rules.specs.Acceptance.{ruleDistinct, ruleSound}
+use Rattle.rules.specs.declared.families.Rule.{Rule}
+use Rattle.rules.specs.declared.lists.Slot.{Slot}
+use Rattle.rules.specs.declared.lists.RuleList.{RuleList}
+use Rattle.rule_text.specs.Lines.{ruleForms, formCount, ruleOf, filler}
+use Rattle.rule_text.specs.declared.reading.LineRead.{LineRead}
+use Rattle.rule_text.specs.declared.reading.LineRead.the-variants.{Good, Bad}
+use Rattle.rule_text.specs.declared.reading.Prefix.{Prefix}
+use Rattle.rule_text.specs.declared.reading.LoadedRules.{LoadedRules}
+
+-- ---- a line
+
+-- the rule that was found is accepted, or refused
+unfoldable pub ruleRead : Rule → ℕ → LineRead
+ruleRead rule length =
+    -- "same role or permission twice in a rule"
+    cond (not (ruleDistinct rule)) (Bad 13)
+    -- "no such date, A after B, h = k, box a > c or b > d"
+    (cond (not (ruleSound rule)) (Bad 14)
+    (Good (record { rule = rule; length = length })))
+
+-- what was found at the front of a text, where rule n is the next
+unfoldable pub lineAfter : ℕ → Found → LineRead
+lineAfter n f =
+    -- "line is no form of its text"
+    cond (eqb (f .form) formCount) (Bad 10)
+    -- "number outside its range"
+    (cond (not (allInRange (formAt ruleForms (f .form)) (f .values))) (Bad 11)
+    -- "rule number not the next"
+    (cond (not (eqb (getD (f .values) 0 0) n)) (Bad 12)
+    (ruleRead (ruleOf (f .form) (f .values)) (f .length))))
+
+unfoldable pub readLine : ℕ → List ℕ → LineRead
+readLine n text = lineAfter n (found ruleForms text)
+
+-- ---- lines, as long as they are good
+
+-- the rules of the good lines, their bytes, and the refusal of the line after them: 0 where the text ends there
+pub record LinesRead : Type 0 where
+  pub rules : List Rule
+  pub length : ℕ
+  pub number : ℕ
+
+abbrev pub stopped : ℕ → LinesRead
+stopped number = record { rules = []; length = 0; number = number }
+
+abbrev pub lineLength : LineRead → ℕ
+lineLength (Good entry) = entry .length
+lineLength (Bad number) = 0
+
+abbrev pub refusalOf : LineRead → ℕ
+refusalOf (Good entry) = 0
+refusalOf (Bad number) = number
+
+abbrev pub after : LineRead → LinesRead → LinesRead
+after (Good entry) lines = record { rules = entry .rule ∷ lines .rules; length = entry .length + lines .length; number = lines .number }
+after (Bad number) lines = stopped number
+
+-- from line n on; the first argument bounds the lines that are read
+unfoldable pub readFrom : ℕ → ℕ → List ℕ → LinesRead
+readFrom zero n text = stopped 0
+readFrom (suc bound) n [] = stopped 0
+readFrom (suc bound) n (c ∷ text) = after (readLine n (c ∷ text)) (readFrom bound (suc n) (drop (lineLength (readLine n (c ∷ text))) (c ∷ text)))
+
+-- "Rules are numbered 1 to 128.": no line after the 128th is good, so that 129 lines are enough
+unfoldable pub readLines : List ℕ → LinesRead
+readLines text = readFrom 129 1 text
+
+-- ---- as the code returns it
+
+abbrev pub slot : Rule → Slot
+slot rule = record { rule = rule }
+
+unfoldable pub unusedSlots : List Slot
+unusedSlots = replicate 128 (slot filler)
+
+-- the rules in 128 slots, and the filler after them
+unfoldable pub listOf : List Rule → RuleList
+listOf rules = record { slots = sets unusedSlots 0 (map slot rules); length = length rules }
+
+-- the same list: its length, the rules below it, and past it the filler
+pub record SameRules (list read : RuleList) : Type 0 where
+  pub same-length : read .length ≡ list .length
+  pub below : (i : ℕ) → i < list .length → getD (read .slots) i (slot filler) ≡ getD (list .slots) i (slot filler)
+  pub past : (i : ℕ) → list .length ≤ i → i < 128 → getD (read .slots) i (slot filler) ≡ slot filler
+
+-- the good lines at the front of a text, and the line after them
+unfoldable pub prefixOf : LinesRead → Prefix
+prefixOf lines = record { list = listOf (lines .rules); length = lines .length; number = lines .number; line = suc (length (lines .rules)) }
+
+-- 0, 0 and the list; or the number and line of the first bad line, "nothing loaded"
+unfoldable pub loadedOf : LinesRead → LoadedRules
+loadedOf lines =
+    cond (eqb (lines .number) 0)
+    (record { number = 0; line = 0; list = listOf (lines .rules) })
+    (record { number = lines .number; line = suc (length (lines .rules)); list = listOf [] })

@@ -1,0 +1,10 @@
+// Rule lists as texts: read, and written.
+mod lines;
+mod reading;
+mod writing;
+
+pub use reading::LoadedRules;
+pub use reading::Prefix;
+pub use reading::read_prefix;
+pub use reading::read_rules;
+pub use writing::write_rules;

@@ -1,0 +1,160 @@
+// Reading a rule list: a line at a time, as long as the lines are good.
+ghost use mathlib.Core.Path.{_≡_};
+ghost use mathlib.Core.List.{[]};
+ghost use Prim.Native.Nat.{_+_, _<_};
+ghost use lib.ListN.{length, set};
+ghost use Rattle.rule_text.specs.Reading.{ruleRead, readLine, refusalOf, slot, readLines, listOf, prefixOf, loadedOf};
+use crate::lines;
+use crate::lines::FORM_COUNT;
+use crate::lines::FORMS;
+use rules::Rule;
+use rules::RuleList;
+use rules::Slot;
+
+// A good line: its rule, and how many bytes it has.
+pub struct Entry {
+    pub rule: Rule,
+    pub length: usize,
+}
+
+pub enum LineRead {
+    Good(Entry),
+    Bad(u64),
+}
+
+// The good lines at the front of a text: their rules and bytes, the line after them, and its refusal, 0 where the text ends there.
+pub struct Prefix {
+    pub list: RuleList,
+    pub length: usize,
+    pub number: u64,
+    pub line: usize,
+}
+
+// 0, 0 and the list; or the number and line of the first bad line and the empty list.
+pub struct LoadedRules {
+    pub number: u64,
+    pub line: usize,
+    pub list: RuleList,
+}
+
+// Reads the line at the front of a text, where this number is the next: 10, then 11, then 12, then 13 and 14.
+fn read_line(text: &[u8], number: u64) -> LineRead
+    ensures { λ r. ⌜ r ≡ readLine number (now (text .entry)) ⌝ }
+{
+    let found = forms::find(&FORMS, text);
+    let form = found.form;
+    let values = found.values;
+    if form == FORM_COUNT {
+        return LineRead::Bad(10);
+    }
+    if !forms::in_range(&FORMS, form, &values) {
+        return LineRead::Bad(11);
+    }
+    if values[0] != number {
+        return LineRead::Bad(12);
+    }
+    let rule = lines::rule_of(form, &values);
+    rule_read(rule, found.length)
+}
+
+// A rule that was found is accepted unless 13 or 14 refuses it.
+fn rule_read(rule: Rule, length: usize) -> LineRead
+    ensures { λ r. ⌜ r ≡ ruleRead rule length ⌝ }
+{
+    if !rule.is_distinct() {
+        return LineRead::Bad(13);
+    }
+    if !rule.is_sound() {
+        return LineRead::Bad(14);
+    }
+    LineRead::Good(Entry { rule, length })
+}
+
+// The number of a refused line, 0 of a good one.
+fn refusal(answer: LineRead) -> u64
+    ensures { λ r. ⌜ r ≡ refusalOf answer ⌝ }
+{
+    match answer {
+        LineRead::Good(_) => 0,
+        LineRead::Bad(number) => number,
+    }
+}
+
+// The empty list: each slot holds the filler.
+fn no_rules() -> RuleList
+    ensures { λ r. ⌜ r ≡ listOf [] ⌝ }
+{
+    RuleList {
+        slots: [Slot {
+            rule: lines::filler(),
+        }; 128],
+        length: 0,
+    }
+}
+
+// The list and one rule more.
+fn with_rule(list: RuleList, rule: Rule) -> RuleList
+    requires { ⌜ list .length < 128 ⌝ }
+    ensures { λ r. ⌜ (r .slots ≡ set (list .slots) (list .length) (slot rule)) × (r .length ≡ list .length + 1) ⌝ }
+{
+    let length = list.length;
+    let mut slots = list.slots;
+    slots[length] = Slot { rule };
+    RuleList {
+        slots,
+        length: length + 1,
+    }
+}
+
+// Reads lines as long as they are good. Each line is read from the byte after the last line's end.
+pub fn read_prefix(text: &[u8]) -> Prefix
+    ensures { λ r. ⌜ r ≡ prefixOf (readLines (now (text .entry))) ⌝ }
+{
+    let mut list = no_rules();
+    let mut rest = text;
+    let mut length: usize = 0;
+    let mut line: usize = 1;
+    while 0 < rest.len() {
+        let answer = read_line(rest, line as u64);
+        let LineRead::Good(entry) = answer else {
+            return Prefix {
+                list,
+                length,
+                number: refusal(answer),
+                line,
+            };
+        };
+        let rule = entry.rule;
+        list = with_rule(list, rule);
+        let end = entry.length;
+        rest = &rest[end..];
+        length += end;
+        line += 1;
+    }
+    Prefix {
+        list,
+        length,
+        number: 0,
+        line,
+    }
+}
+
+// Reads a whole text as a rule list: all of it, or the first bad line and nothing.
+pub fn read_rules(text: &[u8]) -> LoadedRules
+    ensures { λ r. ⌜ r ≡ loadedOf (readLines (now (text .entry))) ⌝ }
+{
+    let prefix = read_prefix(text);
+    if prefix.number != 0 {
+        return LoadedRules {
+            number: prefix.number,
+            line: prefix.line,
+            list: no_rules(),
+        };
+    }
+    let list = prefix.list;
+    LoadedRules {
+        number: 0,
+        line: 0,
+        list,
+    }
+}

@@ -1,0 +1,16 @@
+pub mod Rows
+pub mod Cells
+pub mod Values
+pub mod Keeping
+pub mod Same
+pub mod GoodLines
+pub mod Earlier
+pub mod LineTexts
+pub mod Refusals
+pub mod Lowest
+pub mod OwnCauses
+pub mod RoundTrips
+pub mod Lengths
+pub mod Writes
+pub mod Loads
+pub mod WritingCauses

@@ -1,0 +1,108 @@
+-- Two states that 40 does not refuse and that have the same lines are one.
+-- Assumes nothing.
+use mathlib.Core.Path.{_≡_, refl, sym, ap, _∙_}
+use mathlib.Core.Bool.{Bool, true, false}
+use Prim.Native.Nat.{ℕ, suc, _+_, _*_, _/_, _%_, _<_}
+use native.Mathlib.Omega.{arith}
+use lib.Seq.{ext-getD}
+use Rattle.sets.proofs.Width.{same-members}
+use Rattle.places.specs.declared.Position.{Position}
+use Rattle.places.specs.declared.Position.the-variants.{Unknown, Known}
+use Rattle.rules.specs.Families.{wordAt, hasRole, closedSession, sessionAt}
+use Rattle.rules.specs.declared.sessions.Session.{Session}
+use Rattle.enforcement.specs.States.{isOpen, userOf, positionOf}
+use Rattle.enforcement.specs.Reached.{Accepted}
+use Rattle.enforcement.specs.declared.states.State.{State}
+use Rattle.state_text.specs.Saving.{only, placeLines}
+use Rattle.state_text.specs.declared.entries.Entry.{Entry}
+use Rattle.state_text.specs.declared.entries.Entry.the-variants.{Assigned, Granted, Open, Active, Did}
+use Rattle.state_text.proofs.Cells.{allLines, sessionCells, at, at-now, at-assigned, at-granted, at-session, at-did}
+use Rattle.state_text.proofs.Keeping.{closed-empty}
+
+-- two lists of which one has an element and the other none
+pub unequal : {X : Type 0} → _≡_ {A = ℕ} 0 1 → X
+unequal e = absurd (omega arith)
+
+only-same : (b c : Bool) (e : Entry) → only b e ≡ only c e → b ≡ c
+only-same true true e h = refl
+only-same true false e h = unequal cc
+only-same false true e h = unequal cc
+only-same false false e h = refl
+
+place-same : (i : ℕ) (p q : Position) → placeLines i p ≡ placeLines i q → p ≡ q
+place-same i Unknown Unknown h = refl
+place-same i Unknown (Known point) h = unequal cc
+place-same i (Known point) Unknown h = unequal cc
+place-same i (Known point) (Known other) h =
+    let x : point .x ≡ other .x = cc in
+    let y : point .y ≡ other .y = cc in
+    λ j. Known (record { x = x j; y = y j })
+
+open-same : (i : ℕ) (b c : Bool) (u v : ℕ) → only b (Open i u) ≡ only c (Open i v) → (b ≡ false → u ≡ 0) → (c ≡ false → v ≡ 0) → (b ≡ c) × (u ≡ v)
+open-same i true true u v h p q = (refl, cc)
+open-same i true false u v h p q = unequal cc
+open-same i false true u v h p q = unequal cc
+open-same i false false u v h p q = (refl, p refl ∙ sym (q refl))
+
+closed-user : (s : State) → Accepted s → (i : ℕ) → i < 32 → isOpen s i ≡ false → userOf s i ≡ 0
+closed-user s accepted i h e = ap (λ (v : Session). v .user) (closed-empty s (accepted .unrefused) i h e)
+
+module _ (s s′ : State) (a : Accepted s) (a′ : Accepted s′) (e : (j : ℕ) → j < allLines → at s j ≡ at s′ j) where
+  time-same : s .time ≡ s′ .time
+  time-same = let h = sym (at-now s) ∙ e 0 (omega arith) ∙ at-now s′ in cc
+
+  assigned-same : s .assigned ≡ s′ .assigned
+  assigned-same =
+      ext-getD 0 (s .assigned) (s′ .assigned) (a .typed .users ∙ sym (a′ .typed .users)) (λ u l.
+      let hu : u < 64 = omega (arith, a .typed .users) in
+      same-members 32 (wordAt (s .assigned) u) (wordAt (s′ .assigned) u) (a .typed .smallAssigned u) (a′ .typed .smallAssigned u) (λ r hr.
+      only-same _ _ (Assigned u r) (sym (at-assigned s u r hu hr) ∙ e (1 + (u * 32 + r)) (omega arith) ∙ at-assigned s′ u r hu hr)))
+
+  granted-same : s .granted ≡ s′ .granted
+  granted-same =
+      ext-getD 0 (s .granted) (s′ .granted) (a .typed .roles ∙ sym (a′ .typed .roles)) (λ r l.
+      let hr : r < 32 = omega (arith, a .typed .roles) in
+      same-members 32 (wordAt (s .granted) r) (wordAt (s′ .granted) r) (a .typed .smallGranted r) (a′ .typed .smallGranted r) (λ p hp.
+      only-same _ _ (Granted r p) (sym (at-granted s r p hr hp) ∙ e (1 + (2048 + (r * 32 + p))) (omega arith) ∙ at-granted s′ r p hr hp)))
+
+  cell-same : (i m : ℕ) → i < 32 → m < 34 → sessionCells s i m ≡ sessionCells s′ i m
+  cell-same i m hi hm = sym (at-session s i m hi hm) ∙ e (1 + (2048 + (1024 + (i * 34 + m)))) (omega arith) ∙ at-session s′ i m hi hm
+
+  session-same : (i : ℕ) → i < 32 → sessionAt (s .sessions) i ≡ sessionAt (s′ .sessions) i
+  session-same i hi =
+      let o = open-same i (isOpen s i) (isOpen s′ i) (userOf s i) (userOf s′ i) (cell-same i 0 hi (omega arith)) (closed-user s a i hi) (closed-user s′ a′ i hi) in
+      let p = place-same i (positionOf s i) (positionOf s′ i) (cell-same i 1 hi (omega arith)) in
+      λ j. record { «is_open» = o .0 j; user = o .1 j; position = p j }
+
+  sessions-same : s .sessions ≡ s′ .sessions
+  sessions-same =
+      ext-getD closedSession (s .sessions) (s′ .sessions) (a .typed .allSessions ∙ sym (a′ .typed .allSessions)) (λ i l. session-same i (omega (arith, a .typed .allSessions)))
+
+  active-same : s .active ≡ s′ .active
+  active-same =
+      ext-getD 0 (s .active) (s′ .active) (a .typed .actives ∙ sym (a′ .typed .actives)) (λ i l.
+      let hi : i < 32 = omega (arith, a .typed .actives) in
+      same-members 32 (wordAt (s .active) i) (wordAt (s′ .active) i) (a .typed .smallActive i) (a′ .typed .smallActive i) (λ r hr.
+      only-same _ _ (Active i r) (cell-same i (suc (suc r)) hi (omega arith))))
+
+  history-same : s .history ≡ s′ .history
+  history-same =
+      ext-getD 0 (s .history) (s′ .history) (a .typed .records ∙ sym (a′ .typed .records)) (λ k l.
+      let o = k / 32 in
+      let p = k % 32 in
+      let z : k ≡ o * 32 + p = omega arith in
+      let ho : o < 32 = omega (arith, a .typed .records) in
+      let hp : p < 32 = omega arith in
+      same-members 64 (wordAt (s .history) k) (wordAt (s′ .history) k) (a .typed .smallHistory k) (a′ .typed .smallHistory k) (λ u hu.
+      rw z (only-same (hasRole (s .history) (o * 32 + p) u) (hasRole (s′ .history) (o * 32 + p) u) (Did o p u)
+      (sym (at-did s o p u ho hp hu) ∙ e (1 + (2048 + (1024 + (1088 + ((o * 32 + p) * 64 + u))))) (omega arith) ∙ at-did s′ o p u ho hp hu))))
+
+  pub same-state : s ≡ s′
+  same-state = λ j. record {
+    time = time-same j;
+    assigned = assigned-same j;
+    granted = granted-same j;
+    sessions = sessions-same j;
+    active = active-same j;
+    history = history-same j;
+  }

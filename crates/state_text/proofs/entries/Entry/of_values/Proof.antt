@@ -1,0 +1,121 @@
+-- `state_text::entries::Entry::of_values` meets its contract.
+-- Assumes nothing.
+use mathlib.Core.Path.{_≡_, sym, _∙_}
+use native.Mathlib.Omega.{arith}
+use mir.Syntax.{w32}
+use mir.Val.{toZ, ofZ}
+use Rattle.state_text.specs.Entries.{entryOf}
+use Rattle.state_text.proofs.Values.{entry-did}
+use borrow.Author.Needs.{needs}
+use Rattle.state_text.proofs.entries.Entry.of_values.Statement.{statement}
+use Rattle.state_text.proofs.entries.Entry.of_values.Tie as tie
+
+element-copy-out-t6 : tie.Need-element-copy-out-t6
+element-copy-out-t6 c = search needs
+
+element-copy-out-t9 : tie.Need-element-copy-out-t9
+element-copy-out-t9 c = search needs
+
+element-copy-out-t12 : tie.Need-element-copy-out-t12
+element-copy-out-t12 c = search needs
+
+element-copy-out-t15 : tie.Need-element-copy-out-t15
+element-copy-out-t15 c = search needs
+
+element-copy-out-t18 : tie.Need-element-copy-out-t18
+element-copy-out-t18 c = search needs
+
+element-copy-out-t21 : tie.Need-element-copy-out-t21
+element-copy-out-t21 c = search needs
+
+element-copy-out-t24 : tie.Need-element-copy-out-t24
+element-copy-out-t24 c = search needs
+
+element-copy-out-t27 : tie.Need-element-copy-out-t27
+element-copy-out-t27 c = search needs
+
+element-copy-out-coordinate : tie.Need-element-copy-out-coordinate
+element-copy-out-coordinate c = search needs
+
+coordinate-requires : tie.Need-coordinate-requires
+coordinate-requires c κs = search needs
+
+element-copy-out-coordinate-2 : tie.Need-element-copy-out-coordinate-2
+element-copy-out-coordinate-2 c = search needs
+
+coordinate-requires-2 : tie.Need-coordinate-requires-2
+coordinate-requires-2 c κs = search needs
+
+element-copy-out-t38 : tie.Need-element-copy-out-t38
+element-copy-out-t38 c = search needs
+
+element-copy-out-t41 : tie.Need-element-copy-out-t41
+element-copy-out-t41 c = search needs
+
+element-copy-out-t44 : tie.Need-element-copy-out-t44
+element-copy-out-t44 c = search needs
+
+element-copy-out-t47 : tie.Need-element-copy-out-t47
+element-copy-out-t47 c = search needs
+
+element-copy-out-t50 : tie.Need-element-copy-out-t50
+element-copy-out-t50 c = search needs
+
+returns : tie.Need-returns
+unfolding entryOf
+returns c = rw (c .before .match .keys1)
+
+returns-2 : tie.Need-returns-2
+unfolding entryOf
+returns-2 c = rw (c .before .before .match .keys2)
+
+returns-3 : tie.Need-returns-3
+unfolding entryOf
+returns-3 c = rw (c .before .before .match .keys3)
+
+returns-4 : tie.Need-returns-4
+unfolding entryOf
+returns-4 c = rw (c .before .before .match .keys4)
+
+returns-5 : tie.Need-returns-5
+unfolding entryOf
+returns-5 c =
+    let x : toZ w32 (ofZ w32 (c .before .before .coordinate .result)) ≡ c .before .before .coordinate .result = search needs in
+    let y : toZ w32 (ofZ w32 (c .coordinate2 .result)) ≡ c .coordinate2 .result = search needs in
+    rw (c .before .before .before .before .before .match .keys5, x ∙ c .before .before .coordinate .ensures, y ∙ c .coordinate2 .ensures)
+
+returns-6 : tie.Need-returns-6
+unfolding entryOf
+returns-6 c = rw (c .before .before .match .keys6)
+
+returns-7 : tie.Need-returns-7
+returns-7 c = sym (entry-did (c .before .before .before .before .args .form) _ (omega arith))
+
+pub of-values-spec : {M : Type 1} → statement M
+of-values-spec =
+    tie.close
+    (tie.spec
+    element-copy-out-t6
+    element-copy-out-t9
+    element-copy-out-t12
+    element-copy-out-t15
+    element-copy-out-t18
+    element-copy-out-t21
+    element-copy-out-t24
+    element-copy-out-t27
+    element-copy-out-coordinate
+    coordinate-requires
+    element-copy-out-coordinate-2
+    coordinate-requires-2
+    element-copy-out-t38
+    element-copy-out-t41
+    element-copy-out-t44
+    element-copy-out-t47
+    element-copy-out-t50
+    returns
+    returns-2
+    returns-3
+    returns-4
+    returns-5
+    returns-6
+    returns-7)

@@ -1,0 +1,26 @@
+-- `state_text::entries::place` meets its contract.
+-- Assumes nothing.
+use native.Mathlib.Omega.{arith}
+use native.Mathlib.Nat.{mul-le-mul}
+use Prim.Native.Nat.{_*_, _≤_}
+use borrow.Author.Needs.{needs}
+use Rattle.state_text.proofs.entries.place.Statement.{statement}
+use Rattle.state_text.proofs.entries.place.Tie as tie
+
+product : (c : tie.Start) → c .args .row * c .args .width ≤ 1023 * 64
+product c = let r : c .args .row ≤ 1023 = omega arith in let w : c .args .width ≤ 64 = omega arith in mul-le-mul r w
+
+mul-result : tie.Need-mul-result
+mul-result c = omega (arith, product c)
+
+add-result : tie.Need-add-result
+add-result c = omega (arith, product c)
+
+add-result-2 : tie.Need-add-result-2
+add-result-2 c = omega (arith, product c)
+
+returns : tie.Need-returns
+returns c = search needs
+
+pub place-spec : {M : Type 1} → statement M
+place-spec = tie.close (tie.spec mul-result add-result add-result-2 returns)

@@ -1,0 +1,5 @@
+pub mod Entries
+pub mod Saving
+pub mod Reading
+pub mod Causes
+pub mod Parts

@@ -1,0 +1,62 @@
+-- Document 01, 'Texts': a state's lines in their order, its text, and what writing it gives. Assumes nothing.
+use Prim.Native.Nat.{ℕ, zero, suc}
+use mathlib.Core.Bool.{Bool, true, false, cond}
+use mathlib.Core.List.{List, [], _∷_, _++_}
+use Rattle.forms.specs.Writing.{writtenOf, lentAfter}
+use Rattle.forms.specs.declared.writing.Written.{Written}
+use Rattle.forms.specs.declared.writing.Written.the-variants.{Refused}
+use Rattle.places.specs.declared.Position.{Position}
+use Rattle.places.specs.declared.Position.the-variants.{Unknown, Known}
+use Rattle.enforcement.specs.States.{assignedRole, carries, isOpen, userOf, positionOf, activeRole, did, stateAccepted}
+use Rattle.enforcement.specs.declared.states.State.{State}
+use Rattle.state_text.specs.Entries.{lineText}
+use Rattle.state_text.specs.declared.entries.Entry.{Entry}
+use Rattle.state_text.specs.declared.entries.Entry.the-variants.{Now, Assigned, Granted, Open, Place, Active, Did}
+
+-- ---- a state's lines
+
+-- the parts f 0, f 1, .., f (n - 1), one after the other
+unfoldable pub over : {A : Type 0} → ℕ → (ℕ → List A) → List A
+over zero f = []
+over (suc n) f = over n f ++ f n
+
+-- a where the test holds, and else nothing
+abbrev pub only : {A : Type 0} → Bool → A → List A
+only true a = a ∷ []
+only false a = []
+
+-- "(place s x y) if known"
+abbrev pub placeLines : ℕ → Position → List Entry
+placeLines i Unknown = []
+placeLines i (Known point) = Place i (point .x) (point .y) ∷ []
+
+-- "per session (open s u), (place s x y) if known, (active s r)"
+unfoldable pub sessionLines : State → ℕ → List Entry
+sessionLines s i =
+    only (isOpen s i) (Open i (userOf s i)) ++ (placeLines i (positionOf s i) ++ over 32 (λ r. only (activeRole s i r) (Active i r)))
+
+-- "Saved state, ascending: (now t), (assigned u r), (granted r p), then per session ..; then (did o p u)"
+unfoldable pub linesOf : State → List Entry
+linesOf s =
+    (Now (s .time) ∷ [])
+    ++ (over 64 (λ u. over 32 (λ r. only (assignedRole s u r) (Assigned u r)))
+    ++ (over 32 (λ r. over 32 (λ p. only (carries s r p) (Granted r p)))
+    ++ (over 32 (sessionLines s)
+    ++ over 32 (λ o. over 32 (λ p. over 64 (λ u. only (did s o p u) (Did o p u)))))))
+
+-- ---- its text
+
+unfoldable pub textOf : List Entry → List ℕ
+textOf [] = []
+textOf (e ∷ es) = lineText e ++ textOf es
+
+unfoldable pub savedText : State → List ℕ
+savedText s = textOf (linesOf s)
+
+-- ---- "in writing a text too, 40 comes before 18"
+
+unfoldable pub writtenState : State → List ℕ → Written
+writtenState s lent = cond (stateAccepted s) (writtenOf (savedText s) lent) (Refused 40)
+
+unfoldable pub lentState : State → List ℕ → List ℕ
+lentState s lent = cond (stateAccepted s) (lentAfter (savedText s) lent) lent

@@ -1,0 +1,139 @@
+// The lines of a saved state.
+ghost use mathlib.Core.Path.{_≡_};
+ghost use Prim.Native.Nat.{_+_, _*_, _<_};
+ghost use lib.ListN.{length};
+ghost use Rattle.places.specs.Places.{onGrid};
+ghost use Rattle.state_text.specs.Entries.{coordinateOf, entryOf, formOf, valuesOf, rank, follows};
+ghost use Rattle.state_text.specs.Causes.{Ranged};
+
+// The forms of a saved state, a line each; a mark stands for a number of its kind.
+pub(crate) const FORMS: [u8; 87] = *b"(now ~)\n\
+(assigned @ $)\n\
+(granted $ %)\n\
+(open & @)\n\
+(place & + +)\n\
+(active & $)\n\
+(did * % @)\n";
+
+// A line, by its form and its numbers.
+pub enum Entry {
+    // (now t)
+    Now(u64),
+    // (assigned u r)
+    Assigned(u64, u64),
+    // (granted r p)
+    Granted(u64, u64),
+    // (open s u)
+    Open(u64, u64),
+    // (place s x y)
+    Place(u64, i32, i32),
+    // (active s r)
+    Active(u64, u64),
+    // (did o p u)
+    Did(u64, u64, u64),
+}
+
+impl Entry {
+    // The line that a form says with its values.
+    pub(crate) fn of_values(form: usize, values: &[u64; 6]) -> Entry
+        requires { ⌜ length (now values) ≡ 6 ⌝ }
+        ensures { λ r. ⌜ r ≡ entryOf form (now (values .entry)) ⌝ }
+    {
+        match form {
+            0 => Entry::Now(values[0]),
+            1 => Entry::Assigned(values[0], values[1]),
+            2 => Entry::Granted(values[0], values[1]),
+            3 => Entry::Open(values[0], values[1]),
+            4 => Entry::Place(values[0], coordinate(values[1]), coordinate(values[2])),
+            5 => Entry::Active(values[0], values[1]),
+            _ => Entry::Did(values[0], values[1], values[2]),
+        }
+    }
+
+    // The form of a line.
+    pub(crate) fn form(self) -> usize
+        ensures { λ r. ⌜ r ≡ formOf self ⌝ }
+    {
+        match self {
+            Entry::Now(_) => 0,
+            Entry::Assigned(_, _) => 1,
+            Entry::Granted(_, _) => 2,
+            Entry::Open(_, _) => 3,
+            Entry::Place(_, _, _) => 4,
+            Entry::Active(_, _) => 5,
+            Entry::Did(_, _, _) => 6,
+        }
+    }
+
+    // The values of a line.
+    pub(crate) fn values(self) -> [u64; 6]
+        ensures { λ r. ⌜ r ≡ valuesOf self ⌝ }
+    {
+        match self {
+            Entry::Now(time) => [time, 0, 0, 0, 0, 0],
+            Entry::Assigned(user, role) => [user, role, 0, 0, 0, 0],
+            Entry::Granted(role, permission) => [role, permission, 0, 0, 0, 0],
+            Entry::Open(session, user) => [session, user, 0, 0, 0, 0],
+            Entry::Place(session, x, y) => {
+                let first = forms::signed_code(x);
+                let second = forms::signed_code(y);
+                [session, first, second, 0, 0, 0]
+            }
+            Entry::Active(session, role) => [session, role, 0, 0, 0, 0],
+            Entry::Did(object, permission, user) => [object, permission, user, 0, 0, 0],
+        }
+    }
+
+    // Where a line in range stands among all lines that can be.
+    pub(crate) fn rank(self) -> u64
+        requires { ⌜ Ranged self ⌝ }
+        ensures { λ r. ⌜ r ≡ rank self ⌝ }
+    {
+        match self {
+            Entry::Now(_) => 0,
+            Entry::Assigned(user, role) => place(1, user, 32, role),
+            Entry::Granted(role, permission) => place(2049, role, 32, permission),
+            Entry::Open(session, _) => place(3073, session, 34, 0),
+            Entry::Place(session, _, _) => place(3073, session, 34, 1),
+            Entry::Active(session, role) => place(3073, session, 34, 2 + role),
+            Entry::Did(object, permission, user) => {
+                place(4161, place(0, object, 32, permission), 64, user)
+            }
+        }
+    }
+}
+
+// A coordinate; a value off the grid has none, and 0 stands for it.
+fn coordinate(value: u64) -> i32
+    ensures { λ r. ⌜ r ≡ coordinateOf value ⌝ }
+{
+    let number = forms::signed_value(value);
+    if !on_grid(number) {
+        return 0;
+    }
+    number as i32
+}
+
+fn on_grid(z: i64) -> bool
+    ensures { λ r. ⌜ r ≡ onGrid z ⌝ }
+{
+    (-1_000_000 <= z) & (z <= 1_000_000)
+}
+
+// A column of a row, after the lines before these rows.
+fn place(start: u64, row: u64, width: u64, column: u64) -> u64
+    requires { ⌜ (start < 5000) × (row < 1024) × (width < 65) × (column < 64) ⌝ }
+    ensures { λ r. ⌜ r ≡ start + (row * width + column) ⌝ }
+{
+    start + (row * width + column)
+}
+
+// A line of this rank may stand here: the first one is `now`, a later one stands after the last.
+pub(crate) fn follows(next: u64, rank: u64) -> bool
+    ensures { λ r. ⌜ r ≡ follows next rank ⌝ }
+{
+    if next == 0 {
+        return rank == 0;
+    }
+    next <= rank
+}

@@ -1,0 +1,56 @@
+// The rules over a state that was read.
+ghost use mathlib.Core.Path.{_≡_};
+ghost use Prim.Native.Nat.{_≤_};
+ghost use Rattle.rules.specs.Acceptance.{rulesOf};
+ghost use Rattle.enforcement.specs.States.{ruleHolds};
+ghost use Rattle.enforcement.specs.Decisions.{lowest};
+ghost use Rattle.state_text.specs.Parts.{lowestOf};
+use enforcement::State;
+use rules::Rule;
+use rules::RuleList;
+use rules::Tested;
+
+// The lowest broken rule, if there is one.
+pub enum LowestBroken {
+    Nothing,
+    Rule(usize),
+}
+
+// The full test of each rule over the whole state, lowest first.
+pub(crate) fn lowest_broken(list: RuleList, state: State) -> LowestBroken
+    requires { ⌜ list .length ≤ 128 ⌝ }
+    ensures { λ r. ⌜ r ≡ lowestOf (lowest (λ rule. ruleHolds rule state) 1 (rulesOf list)) ⌝ }
+{
+    let length = list.length;
+    let mut i: usize = 0;
+    'rules: loop {
+        if i == length {
+            break 'rules LowestBroken::Nothing;
+        }
+        let slot = list.slots[i];
+        let rule = slot.rule;
+        if !holds(state, rule) {
+            break 'rules LowestBroken::Rule(i + 1);
+        }
+        i += 1;
+    }
+}
+
+fn holds(state: State, rule: Rule) -> bool
+    ensures { λ r. ⌜ r ≡ ruleHolds rule state ⌝ }
+{
+    let sessions = state.sessions;
+    let time = state.time;
+    match rule.test(
+        &state.assigned,
+        &state.assigned,
+        &state.granted,
+        sessions,
+        &state.active,
+        &state.history,
+        time,
+    ) {
+        Tested::Kept => true,
+        Tested::Broken(_) => false,
+    }
+}

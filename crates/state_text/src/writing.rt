@@ -1,0 +1,170 @@
+// A state as a saved text. Every function writes its part at a place and returns where it ends; bytes past the end of the lent space are
+// left out, so that the same functions measure a text in an empty part of it.
+ghost use mathlib.Core.Path.{_≡_};
+ghost use Prim.Native.Nat.{_<_};
+ghost use lib.ListN.{length};
+ghost use Rattle.forms.specs.Writing.{Wrote};
+ghost use Rattle.state_text.specs.Entries.{lineText};
+ghost use Rattle.state_text.specs.Saving.{over, placeLines, sessionLines, textOf, savedText, writtenState, lentState};
+ghost use Rattle.state_text.specs.Parts.{memberLine, memberLines, setLines, rowLines, historyLines, openLines, sessionParts};
+use crate::entries::Entry;
+use crate::entries::FORMS;
+use enforcement::Session;
+use enforcement::State;
+use forms::Written;
+use places::Position;
+use sets::word64;
+
+// The text of a state that 40 does not refuse, or the refusal's number; then every byte stays.
+pub fn write_state(state: State, out: &mut [u8]) -> Written
+    ensures { λ r. ⌜ (r ≡ writtenState state (now (out .entry))) × (now (out .exit) ≡ lentState state (now (out .entry))) ⌝ }
+{
+    if !state.is_accepted() {
+        return Written::Refused(40);
+    }
+    let need = write_lines(state, &mut out[..0], 0);
+    if out.len() < need {
+        return Written::Refused(18);
+    }
+    let length = write_lines(state, out, 0);
+    Written::Length(length)
+}
+
+// All lines, in their order.
+fn write_lines(state: State, out: &mut [u8], at: usize) -> usize
+    ensures { λ r. ⌜ Wrote (now (out .entry)) at (savedText state) r (now (out .exit)) ⌝ }
+{
+    let after_time = write_line(Entry::Now(state.time), out, at);
+    let assigned = state.assigned;
+    let after_assigned = write_rows(1, &assigned, out, after_time);
+    let granted = state.granted;
+    let after_granted = write_rows(2, &granted, out, after_assigned);
+    let after_sessions = write_sessions(state, out, after_granted);
+    let history = state.history;
+    write_history(&history, out, after_sessions)
+}
+
+// The lines of the sets of numbers below 32 that a list holds.
+fn write_rows(form: usize, words: &[u32], out: &mut [u8], at: usize) -> usize
+    ensures { λ r. ⌜ Wrote (now (out .entry)) at (textOf (over (length (now (words .entry))) (rowLines form (now (words .entry))))) r (now (out .exit)) ⌝ }
+{
+    let mut place = at;
+    let mut i: usize = 0;
+    while i < words.len() {
+        place = write_set(form, i as u64, 0, wide(words[i]), out, place);
+        i += 1;
+    }
+    place
+}
+
+fn write_sessions(state: State, out: &mut [u8], at: usize) -> usize
+    ensures { λ r. ⌜ Wrote (now (out .entry)) at (textOf (over 32 (sessionLines state))) r (now (out .exit)) ⌝ }
+{
+    let mut place = at;
+    let mut i: usize = 0;
+    while i < 32 {
+        let session = state.sessions[i];
+        let roles = state.active[i];
+        place = write_session(i as u64, session, roles, out, place);
+        i += 1;
+    }
+    place
+}
+
+fn write_session(i: u64, session: Session, roles: u32, out: &mut [u8], at: usize) -> usize
+    ensures { λ r. ⌜ Wrote (now (out .entry)) at (textOf (sessionParts i session roles)) r (now (out .exit)) ⌝ }
+{
+    let after_open = write_open(i, session.is_open, session.user as u64, out, at);
+    let position = session.position;
+    let after_place = write_place(i, position, out, after_open);
+    write_set(5, i, 0, wide(roles), out, after_place)
+}
+
+fn write_open(i: u64, is_open: bool, user: u64, out: &mut [u8], at: usize) -> usize
+    ensures { λ r. ⌜ Wrote (now (out .entry)) at (textOf (openLines i is_open user)) r (now (out .exit)) ⌝ }
+{
+    if is_open {
+        return write_line(Entry::Open(i, user), out, at);
+    }
+    at
+}
+
+fn write_place(i: u64, position: Position, out: &mut [u8], at: usize) -> usize
+    ensures { λ r. ⌜ Wrote (now (out .entry)) at (textOf (placeLines i position)) r (now (out .exit)) ⌝ }
+{
+    match position {
+        Position::Unknown => at,
+        Position::Known(point) => write_line(Entry::Place(i, point.x, point.y), out, at),
+    }
+}
+
+// The users of each object and permission.
+fn write_history(words: &[u64; 1024], out: &mut [u8], at: usize) -> usize
+    ensures { λ r. ⌜ Wrote (now (out .entry)) at (textOf (over 1024 (historyLines (now (words .entry))))) r (now (out .exit)) ⌝ }
+{
+    let mut place = at;
+    let mut i: usize = 0;
+    while i < 1024 {
+        place = write_set(6, (i / 32) as u64, (i % 32) as u64, words[i], out, place);
+        i += 1;
+    }
+    place
+}
+
+// The lines of a set's members: none where it is empty. The form's first numbers are the same in each, the last is the member.
+fn write_set(form: usize, first: u64, second: u64, set: u64, out: &mut [u8], at: usize) -> usize
+    ensures { λ r. ⌜ Wrote (now (out .entry)) at (textOf (setLines form first second set)) r (now (out .exit)) ⌝ }
+{
+    if set == 0 {
+        return at;
+    }
+    let mut place = at;
+    let mut j: usize = 0;
+    while j < 64 {
+        place = write_member(form, first, second, set, j, out, place);
+        j += 1;
+    }
+    place
+}
+
+// The line of j, where it is a member.
+fn write_member(
+    form: usize,
+    first: u64,
+    second: u64,
+    set: u64,
+    j: usize,
+    out: &mut [u8],
+    at: usize,
+) -> usize
+    ensures { λ r. ⌜ Wrote (now (out .entry)) at (textOf (memberLines form first second set j)) r (now (out .exit)) ⌝ }
+{
+    if word64::member(set, j) {
+        return write_line(member_line(form, first, second, j as u64), out, at);
+    }
+    at
+}
+
+fn member_line(form: usize, first: u64, second: u64, j: u64) -> Entry
+    ensures { λ r. ⌜ r ≡ memberLine form first second j ⌝ }
+{
+    match form {
+        1 => Entry::Assigned(first, j),
+        2 => Entry::Granted(first, j),
+        5 => Entry::Active(first, j),
+        _ => Entry::Did(first, second, j),
+    }
+}
+
+fn write_line(entry: Entry, out: &mut [u8], at: usize) -> usize
+    ensures { λ r. ⌜ Wrote (now (out .entry)) at (lineText entry) r (now (out .exit)) ⌝ }
+{
+    let values = entry.values();
+    forms::write(&FORMS, entry.form(), &values, out, at)
+}
+
+fn wide(word: u32) -> u64
+    ensures { λ r. ⌜ r ≡ word ⌝ }
+{
+    word as u64
+}

@@ -1,0 +1,206 @@
+-- The loops over the lines of a text of steps: what a turn keeps. Assumes nothing.
+use mathlib.Core.Path.{_≡_, refl, sym, ap, _∙_, subst, subst⁻¹}
+use mathlib.Core.Bool.{Bool, true, false, cond}
+use mathlib.Core.List.{List, [], _∷_, _++_}
+use Prim.Native.Nat.{ℕ, zero, suc, _+_, _-_, _≤_, _<_}
+use native.Mathlib.Numerals.{add-one}
+use native.Mathlib.Omega.{arith}
+use lib.ListN.{length, take, drop, length-drop}
+use lib.Dec.{eqb}
+use borrow.Author.Tests.{eqb-true, eqb-false}
+use Rattle.sets.proofs.Booleans.{clash}
+use Rattle.forms.specs.Numbers.{isDigit}
+use Rattle.forms.specs.Kinds.{isSlot, kindOf, lookup}
+use Rattle.forms.specs.Forms.{fill, valuesFit}
+use Rattle.forms.specs.Tables.{linesIn, formAt, found, distinct}
+use Rattle.forms.specs.Writing.{lastPlace, Wrote}
+use Rattle.forms.specs.declared.tables.Found.{Found}
+use Rattle.forms.proofs.Finding.{Hits, found-hits}
+use Rattle.forms.proofs.Puts.{then, like, nothing-written, next-most}
+use Rattle.forms.proofs.Turns.{rest}
+use Rattle.rules.specs.declared.lists.RuleList.{RuleList}
+use Rattle.enforcement.specs.States.{fresh}
+use Rattle.enforcement.specs.Gate.{stepOf}
+use Rattle.enforcement.specs.declared.states.State.{State}
+use Rattle.enforcement.specs.declared.steps.Next.{Next}
+use Rattle.step_text.specs.Lines.{stepForms, formCount, stepFrom, lineAfter, readStep, StepsRead, steps, bad, onto, lineLength, after, readFrom, readSteps, badLine}
+use Rattle.step_text.specs.Answers.{answerText}
+use Rattle.step_text.specs.Running.{answered, lineAnswered, answersFrom}
+use Rattle.step_text.specs.declared.lines.StepLine.{StepLine}
+use Rattle.step_text.specs.declared.lines.StepRead.{StepRead}
+use Rattle.step_text.specs.declared.lines.StepRead.the-variants.{Good, Bad}
+
+-- ---- the table: antt computes the tests
+
+pub forms-distinct : distinct (linesIn stepForms) ≡ true
+unfolding stepForms linesIn isSlot kindOf lookup isDigit
+forms-distinct = refl
+
+pub forms-counted : length (linesIn stepForms) ≡ formCount
+unfolding stepForms linesIn
+forms-counted = refl
+
+-- ---- a good line has a byte at least, and no more than the text
+
+abbrev Within : List ℕ → StepRead → Type 0
+Within text (Good line) = (0 < line .length) × (line .length ≤ length text)
+Within text (Bad number) = Unit {0}
+
+pub below : (a b : ℕ) → a ≤ b → (a ≡ b → ⊥) → a < b
+below a b l n = omega (arith, n)
+
+line-within : (text : List ℕ) → Within text (readStep text)
+unfolding readStep lineAfter
+line-within text = go (eqb (found stepForms text .form) formCount) refl (found-hits stepForms text forms-distinct)
+  where
+    go : (b : Bool) → eqb (found stepForms text .form) formCount ≡ b → Hits stepForms text (found stepForms text)
+        → Within text (cond b (Bad 10) (Good (record { step = stepFrom (found stepForms text .form) (found stepForms text .values); length = found stepForms text .length })))
+    go true e h = tt
+    go false e h =
+        let less : found stepForms text .form < length (linesIn stepForms) =
+        below (found stepForms text .form) (length (linesIn stepForms)) (h .most) (λ q. eqb-false (found stepForms text .form) formCount e (q ∙ forms-counted)) in
+        (h .some less, h .short)
+
+pub good-within : (text : List ℕ) (a : StepRead) (line : StepLine) → a ≡ readStep text → a ≡ Good line → (0 < line .length) × (line .length ≤ length text)
+good-within text a line e g = subst (Within text) (sym e ∙ g) (line-within text)
+
+-- ---- looking for the first bad line
+
+pub record Check (text remaining : List ℕ) (line : ℕ) : Type 0 where
+  pub bound : ℕ
+  pub enough : length remaining ≤ bound
+  pub few : line + length remaining ≤ 1 + length text
+  pub same : badLine (readSteps 1 text) ≡ badLine (readFrom bound line remaining)
+
+pub check-start : (text : List ℕ) → Check text text 1
+unfolding readSteps
+check-start text = record { bound = length text; enough = omega arith; few = omega arith; same = refl }
+
+-- one line and what follows it
+read-next : (bound n : ℕ) (text : List ℕ) → 0 < length text
+    → readFrom (suc bound) n text ≡ after n (readStep text) (readFrom bound (suc n) (drop (lineLength (readStep text)) text))
+unfolding readFrom
+read-next bound n [] h = absurd (omega arith)
+read-next bound n (c ∷ text) h = refl
+
+onto-bad : (n : ℕ) (line : StepLine) (r : StepsRead) → badLine (after n (Good line) r) ≡ badLine r
+onto-bad n line (steps list) = refl
+onto-bad n line (bad k) = refl
+
+-- a bound that leaves room for a line is one more than another
+pub one-less : (n bound : ℕ) → 0 < n → n ≤ bound → bound ≡ suc (bound - 1)
+one-less n bound h l = omega arith
+
+module _ {text remaining : List ℕ} {line : ℕ} (v : Check text remaining line) (h : 0 < length remaining) (a : StepRead) (e : a ≡ readStep remaining) where
+  here : badLine (readSteps 1 text) ≡ badLine (after line a (readFrom (v .bound - 1) (suc line) (drop (lineLength a) remaining)))
+  here =
+      v .same
+      ∙ ap (λ (n : ℕ). badLine (readFrom n line remaining)) (one-less (length remaining) (v .bound) h (v .enough))
+      ∙ ap badLine (read-next (v .bound - 1) line remaining h)
+      ∙ ap (λ (x : StepRead). badLine (after line x (readFrom (v .bound - 1) (suc line) (drop (lineLength x) remaining)))) (sym e)
+
+  pub check-stop : (number : ℕ) → a ≡ Bad number → line ≡ badLine (readSteps 1 text)
+  check-stop number g =
+      sym (here ∙ ap (λ (x : StepRead). badLine (after line x (readFrom (v .bound - 1) (suc line) (drop (lineLength x) remaining)))) g)
+
+  module _ (good : StepLine) (g : a ≡ Good good) where
+    pub check-fits : good .length ≤ length remaining
+    check-fits = good-within remaining a good e g .1
+
+    pub check-less : length (take (length remaining - good .length) (drop (good .length) remaining)) < length remaining
+    check-less = rw (rest remaining (good .length)) (omega (arith, length-drop (good .length) remaining, good-within remaining a good e g))
+
+    pub check-turn : Check text (take (length remaining - good .length) (drop (good .length) remaining)) (line + 1)
+    check-turn = record {
+      bound = v .bound - 1;
+      enough = omega (arith, check-less, v .enough);
+      few = omega (arith, check-less, v .few);
+      same =
+          here
+          ∙ ap (λ (x : StepRead). badLine (after line x (readFrom (v .bound - 1) (suc line) (drop (lineLength x) remaining)))) g
+          ∙ onto-bad line good (readFrom (v .bound - 1) (suc line) (drop (good .length) remaining))
+          ∙ rw (rest remaining (good .length), add-one);
+    }
+
+pub check-end : {text remaining : List ℕ} {line : ℕ} → Check text remaining line → length remaining ≤ 0 → 0 ≡ badLine (readSteps 1 text)
+check-end {text} {remaining} {line} v h = sym (v .same ∙ go (v .bound) remaining h)
+  where
+    go : (bound : ℕ) (l : List ℕ) → length l ≤ 0 → badLine (readFrom bound line l) ≡ 0
+    go zero l k = unfold readFrom in refl
+    go (suc bound) [] k = unfold readFrom in refl
+    go (suc bound) (c ∷ l) k = absurd (omega arith)
+
+-- ---- writing the answers: to write what is left is to have written it all
+
+pub record Answering (list : RuleList) (text l₀ : List ℕ) (at : ℕ) (l : List ℕ) (state : State) (remaining : List ℕ) (place : ℕ) : Type 0 where
+  pub bound : ℕ
+  pub enough : length remaining ≤ bound
+  pub room : length l₀ ≤ lastPlace
+  pub within : place ≤ lastPlace
+  pub same : length l ≡ length l₀
+  pub left : (r : ℕ) (l′ : List ℕ) → Wrote l place (answersFrom bound list state remaining) r l′ → Wrote l₀ at (answersFrom (length text) list fresh text) r l′
+
+pub answers-start : (list : RuleList) (text l : List ℕ) (at : ℕ) (state : State) → state ≡ fresh → length l ≤ lastPlace → at ≤ lastPlace → Answering list text l at l state text at
+answers-start list text l at state e m h = record {
+  bound = length text;
+  enough = omega arith;
+  room = m;
+  within = h;
+  same = refl;
+  left = λ r l′ w. subst (λ (s : State). Wrote l at (answersFrom (length text) list s text) r l′) e w;
+}
+
+answers-next : (bound : ℕ) (list : RuleList) (s : State) (text : List ℕ) → 0 < length text
+    → answersFrom (suc bound) list s text
+    ≡ lineAnswered list s (readStep text) (λ next. answersFrom bound list next (drop (lineLength (readStep text)) text))
+unfolding answersFrom
+answers-next bound list s [] h = absurd (omega arith)
+answers-next bound list s (c ∷ text) h = refl
+
+module _ {list : RuleList} {text l₀ : List ℕ} {at : ℕ} {l : List ℕ} {state : State} {remaining : List ℕ} {place : ℕ}
+    (v : Answering list text l₀ at l state remaining place) (h : 0 < length remaining) (a : StepRead) (e : a ≡ readStep remaining) where
+  line-next : answersFrom (v .bound) list state remaining ≡ lineAnswered list state a (λ next. answersFrom (v .bound - 1) list next (drop (lineLength a) remaining))
+  line-next =
+      ap (λ (n : ℕ). answersFrom n list state remaining) (one-less (length remaining) (v .bound) h (v .enough))
+      ∙ answers-next (v .bound - 1) list state remaining h
+      ∙ ap (λ (x : StepRead). lineAnswered list state x (λ next. answersFrom (v .bound - 1) list next (drop (lineLength x) remaining))) (sym e)
+
+  pub answers-stop : (number : ℕ) → a ≡ Bad number → Wrote l₀ at (answersFrom (length text) list fresh text) place l
+  answers-stop number g =
+      v .left place l
+      (like (line-next ∙ ap (λ (x : StepRead). lineAnswered list state x (λ next. answersFrom (v .bound - 1) list next (drop (lineLength x) remaining))) g)
+      (nothing-written l place (v .within)))
+
+  module _ (good : StepLine) (g : a ≡ Good good) where
+    pub answers-fits : good .length ≤ length remaining
+    answers-fits = good-within remaining a good e g .1
+
+    pub answers-less : length (take (length remaining - good .length) (drop (good .length) remaining)) < length remaining
+    answers-less = rw (rest remaining (good .length)) (omega (arith, length-drop (good .length) remaining, good-within remaining a good e g))
+
+    pub answers-turn : (next : Next) → next ≡ stepOf list state (good .step)
+        → {place′ : ℕ} {l′ : List ℕ} → Wrote l place (answerText (next .answer)) place′ l′ → length l′ ≡ length l
+        → Answering list text l₀ at l′ (next .state) (take (length remaining - good .length) (drop (good .length) remaining)) place′
+    answers-turn next n {place′} {l′} w k = record {
+      bound = v .bound - 1;
+      enough = omega (arith, answers-less, v .enough);
+      room = v .room;
+      within = next-most w;
+      same = k ∙ v .same;
+      left = λ r m z.
+          v .left r m
+          (like
+          (line-next
+          ∙ ap (λ (x : StepRead). lineAnswered list state x (λ s. answersFrom (v .bound - 1) list s (drop (lineLength x) remaining))) g
+          ∙ ap (λ (x : Next). answered x (λ s. answersFrom (v .bound - 1) list s (drop (good .length) remaining))) (sym n))
+          (then (omega (arith, v .same, v .room)) w (subst (λ (u : List ℕ). Wrote l′ place′ (answersFrom (v .bound - 1) list (next .state) u) r m) (rest remaining (good .length)) z)));
+    }
+
+pub answers-end : {list : RuleList} {text l₀ : List ℕ} {at : ℕ} {l : List ℕ} {state : State} {remaining : List ℕ} {place : ℕ}
+    → Answering list text l₀ at l state remaining place → length remaining ≤ 0 → Wrote l₀ at (answersFrom (length text) list fresh text) place l
+answers-end {list} {text} {l₀} {at} {l} {state} {remaining} {place} v h = v .left place l (like (go (v .bound) remaining h) (nothing-written l place (v .within)))
+  where
+    go : (bound : ℕ) (m : List ℕ) → length m ≤ 0 → answersFrom bound list state m ≡ []
+    go zero m k = unfold answersFrom in refl
+    go (suc bound) [] k = unfold answersFrom in refl
+    go (suc bound) (c ∷ m) k = absurd (omega arith)

@@ -1,0 +1,78 @@
+-- `step_text::lines::read_step` meets its contract. Assumes nothing.
+use mathlib.Core.Path.{_≡_, ap, _∙_}
+use lib.IntN.{ℤ}
+use mir.Syntax.{w64}
+use mir.ValLaws.{toZ-ofZ}
+use lib.ListN.{getD}
+use borrow.Author.Tests.{eq-eqb, ne-eqb}
+use Rattle.forms.specs.declared.tables.Found.{Found}
+use Rattle.step_text.specs.Lines.{stepForms, formCount, stepFrom, lineAfter, readStep}
+use Rattle.step_text.specs.declared.lines.StepRead.the-variants.{Good, Bad}
+use borrow.Author.Needs.{needs}
+use Rattle.step_text.proofs.lines.read_step.Statement.{statement}
+use Rattle.step_text.proofs.lines.read_step.Tie as tie
+
+-- by the test of the form
+none : (f : Found) → f .form ≡ formCount → Bad 10 ≡ lineAfter f
+unfolding lineAfter
+none f e = rw (eq-eqb (f .form) formCount e)
+
+some : (f : Found) → (f .form ≡ formCount → ⊥) → (x y : ℤ) → x ≡ stepFrom (f .form) (f .values) .x → y ≡ stepFrom (f .form) (f .values) .y
+    → Good (record { step = record { kind = f .form; first = getD (f .values) 0 0; second = getD (f .values) 1 0; third = getD (f .values) 2 0; x = x; y = y }; length = f .length })
+    ≡ lineAfter f
+unfolding lineAfter
+some f n x y p q = rw (ne-eqb (f .form) formCount n, p, q)
+
+slice-aggregate-find : tie.Need-slice-aggregate-find
+slice-aggregate-find c = search needs
+
+find-requires : tie.Need-find-requires
+find-requires c κs = search needs
+
+returns : tie.Need-returns
+unfolding readStep stepForms
+returns c = none _ (c .if1 .taken) ∙ ap lineAfter (c .before .find .ensures)
+
+array-read-t13 : tie.Need-array-read-t13
+array-read-t13 c = search needs
+
+array-read-t16 : tie.Need-array-read-t16
+array-read-t16 c = search needs
+
+array-read-t19 : tie.Need-array-read-t19
+array-read-t19 c = search needs
+
+array-read-signed-value : tie.Need-array-read-signed-value
+array-read-signed-value c = search needs
+
+signed-value-requires : tie.Need-signed-value-requires
+signed-value-requires c κs = search needs
+
+array-read-signed-value-2 : tie.Need-array-read-signed-value-2
+array-read-signed-value-2 c = search needs
+
+signed-value-requires-2 : tie.Need-signed-value-requires-2
+signed-value-requires-2 c κs = search needs
+
+returns-2 : tie.Need-returns-2
+unfolding readStep stepForms
+returns-2 c =
+    let find = c .before .before .before .before .find in
+    rw (toZ-ofZ w64 _ (record { sfits = c .before .signed-value .ok }), toZ-ofZ w64 _ (record { sfits = c .signed-value2 .ok }))
+    (some (find .result) (c .before .before .before .if1 .left) _ _ (c .before .signed-value .ensures) (c .signed-value2 .ensures) ∙ ap lineAfter (find .ensures))
+
+pub read-step-spec : {M : Type 1} → statement M
+read-step-spec =
+    tie.close
+    (tie.spec
+    slice-aggregate-find
+    find-requires
+    returns
+    array-read-t13
+    array-read-t16
+    array-read-t19
+    array-read-signed-value
+    signed-value-requires
+    array-read-signed-value-2
+    signed-value-requires-2
+    returns-2)

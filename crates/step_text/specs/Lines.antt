@@ -1,0 +1,88 @@
+-- Document 01, 'State and steps' and 'Texts': a step's line, and the lines of a text. "10 alone (steps)".
+-- Assumes nothing.
+use Prim.Native.Nat.{ℕ, zero, suc}
+use mathlib.Core.Bool.{cond}
+use mathlib.Core.List.{List, [], _∷_, _++_}
+use lib.ListN.{length, drop, getD}
+use lib.Dec.{eqb}
+use Rattle.forms.specs.Numbers.{signedValue}
+use Rattle.forms.specs.Tables.{bytes, found}
+use Rattle.forms.specs.declared.tables.Found.{Found}
+use Rattle.enforcement.specs.declared.steps.Step.{Step}
+use Rattle.step_text.specs.declared.lines.StepLine.{StepLine}
+use Rattle.step_text.specs.declared.lines.StepRead.{StepRead}
+use Rattle.step_text.specs.declared.lines.StepRead.the-variants.{Good, Bad}
+
+-- the table of steps, in its order; each mark stands for any number, `_` for one that may have a minus
+unfoldable pub stepForms : List ℕ
+stepForms =
+    bytes "(assign ? ?)\n"
+    ++ bytes "(withdraw ? ?)\n"
+    ++ bytes "(grant ? ?)\n"
+    ++ bytes "(take ? ?)\n"
+    ++ bytes "(open ? ?)\n"
+    ++ bytes "(activate ? ?)\n"
+    ++ bytes "(deactivate ? ?)\n"
+    ++ bytes "(access ? ? ?)\n"
+    ++ bytes "(finish ?)\n"
+    ++ bytes "(close ?)\n"
+    ++ bytes "(move ? _ _)\n"
+    ++ bytes "(lost ?)\n"
+    ++ bytes "(clock ?)\n"
+
+abbrev pub formCount : ℕ
+formCount = 13
+
+-- the kind is the form's number; numbers that a kind does not use are not looked at
+abbrev pub stepFrom : ℕ → List ℕ → Step
+stepFrom form values =
+    record {
+      kind = form;
+      first = getD values 0 0;
+      second = getD values 1 0;
+      third = getD values 2 0;
+      x = signedValue (getD values 1 0);
+      y = signedValue (getD values 2 0);
+    }
+
+-- ---- a line
+
+-- "line is no form of its text"
+unfoldable pub lineAfter : Found → StepRead
+lineAfter f = cond (eqb (f .form) formCount) (Bad 10) (Good (record { step = stepFrom (f .form) (f .values); length = f .length }))
+
+unfoldable pub readStep : List ℕ → StepRead
+readStep text = lineAfter (found stepForms text)
+
+-- ---- the lines of a text
+
+-- its steps, or its first bad line
+pub data StepsRead : Type 0 where
+  steps : List Step → StepsRead
+  bad : ℕ → StepsRead
+
+abbrev pub onto : Step → StepsRead → StepsRead
+onto step (steps list) = steps (step ∷ list)
+onto step (bad line) = bad line
+
+abbrev pub lineLength : StepRead → ℕ
+lineLength (Good line) = line .length
+lineLength (Bad number) = 0
+
+abbrev pub after : ℕ → StepRead → StepsRead → StepsRead
+after n (Good line) rest = onto (line .step) rest
+after n (Bad number) rest = bad n
+
+-- from line n on; a line has a byte at least, so that as many lines as bytes are enough
+unfoldable pub readFrom : ℕ → ℕ → List ℕ → StepsRead
+readFrom zero n text = steps []
+readFrom (suc bound) n [] = steps []
+readFrom (suc bound) n (c ∷ text) = after n (readStep (c ∷ text)) (readFrom bound (suc n) (drop (lineLength (readStep (c ∷ text))) (c ∷ text)))
+
+unfoldable pub readSteps : ℕ → List ℕ → StepsRead
+readSteps n text = readFrom (length text) n text
+
+-- 0 where every line is a step
+abbrev pub badLine : StepsRead → ℕ
+badLine (steps list) = 0
+badLine (bad line) = line

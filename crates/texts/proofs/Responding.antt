@@ -1,0 +1,198 @@
+-- The response, as the code puts it together; and how long it can be. Assumes nothing.
+use mathlib.Core.Path.{_≡_, refl, sym, ap, _∙_, subst}
+use mathlib.Core.Bool.{Bool, true, false, cond}
+use mathlib.Core.List.{List, [], _∷_, _++_}
+use mathlib.Core.Logic.{_⊎_, inl, inr}
+use Prim.Native.Nat.{ℕ, zero, suc, _+_, _-_, _*_, _≤_, _<_}
+use native.Mathlib.Omega.{arith}
+use lib.ListN.{length, take, drop, length-append, length-drop}
+use lib.Dec.{eqb, ltb}
+use borrow.Author.Tests.{lt-ltb, le-ltb, eq-eqb, ne-eqb, eqb-true, ltb-true, ltb-false}
+use Rattle.forms.specs.Numbers.{isDigit}
+use Rattle.forms.specs.Kinds.{isSlot, kindOf, lookup}
+use Rattle.forms.specs.Forms.{textBy, itemText, fill}
+use Rattle.forms.specs.Tables.{linesIn, formAt, found, distinct}
+use Rattle.forms.specs.declared.tables.Found.{Found}
+use Rattle.forms.proofs.Finding.{found-hits}
+use Rattle.forms.proofs.Turns.{rest}
+use Rattle.rules.specs.declared.lists.RuleList.{RuleList}
+use Rattle.enforcement.specs.States.{fresh}
+use Rattle.enforcement.specs.Gate.{runOf}
+use Rattle.enforcement.proofs.Kept.{fresh-accepted}
+use Rattle.rule_text.specs.Causes.{Cause, no-form, out-of-range, not-next, same-twice, unsound}
+use Rattle.rule_text.specs.Reading.{LinesRead, readLines, listOf, prefixOf}
+use Rattle.rule_text.specs.Lines.{listText}
+use Rattle.rule_text.specs.declared.reading.Prefix.{Prefix}
+use Rattle.rule_text.proofs.Lists.{Reads, reads-lines}
+use Rattle.step_text.specs.Lines.{StepsRead, steps, bad, readSteps, badLine}
+use Rattle.step_text.specs.Answers.{badText, answersText}
+use Rattle.step_text.specs.Running.{answersFrom}
+use Rattle.step_text.proofs.Runs.{Runs, answers-run, Positive, positive}
+use Rattle.step_text.proofs.Sizes.{Sized, sized, answers-short, bad-short}
+use Rattle.texts.specs.Response.{stepsForm, startsSteps, stepsResponse, numberOf, afterRules, responseOf}
+
+-- ---- the line `(steps)`
+
+steps-distinct : distinct (linesIn stepsForm) ≡ true
+unfolding stepsForm linesIn isSlot kindOf lookup isDigit
+steps-distinct = refl
+
+steps-one : length (linesIn stepsForm) ≡ 1
+unfolding stepsForm linesIn
+steps-one = refl
+
+steps-long : (values : List ℕ) → length (fill (formAt stepsForm 0) values) ≡ 8
+unfolding stepsForm formAt linesIn fill itemText textBy isSlot kindOf lookup
+steps-long values = refl
+
+-- where it stands there is room for it
+pub starts-room : (text : List ℕ) → startsSteps text ≡ true → 8 ≤ length text
+unfolding startsSteps
+starts-room text h =
+    let hits = found-hits stepsForm text steps-distinct in
+    let zero-form = eqb-true (found stepsForm text .form) 0 h in
+    let less : found stepsForm text .form < length (linesIn stepsForm) = omega (arith, steps-one) in
+    let exact : found stepsForm text .length ≡ 8 =
+    hits .exact less ∙ ap (λ (k : ℕ). length (fill (formAt stepsForm k) (found stepsForm text .values))) zero-form ∙ steps-long (found stepsForm text .values) in
+    omega (arith, hits .short)
+
+-- ---- the steps
+
+module _ (list : RuleList) (line : ℕ) (text : List ℕ) (b : ℕ) (e : b ≡ badLine (readSteps 1 text)) where
+  pub steps-answered : b ≡ 0 → stepsResponse list line (readSteps 1 text) ≡ answersFrom (length text) list fresh text
+  unfolding stepsResponse
+  steps-answered z = go (readSteps 1 text) (answers-run 1 list fresh text) (positive text) (sym e ∙ z)
+    where
+      go : (r : StepsRead) → Runs list fresh (answersFrom (length text) list fresh text) r → Positive r → badLine r ≡ 0 → stepsResponse list line r ≡ answersFrom (length text) list fresh text
+      go (steps read) runs p q = sym runs
+      go (bad k) runs p q = absurd (omega arith)
+
+  pub steps-refused : (b ≡ 0 → ⊥) → stepsResponse list line (readSteps 1 text) ≡ badText 10 (line + b)
+  unfolding stepsResponse
+  steps-refused n = go (readSteps 1 text) e
+    where
+      go : (r : StepsRead) → b ≡ badLine r → stepsResponse list line r ≡ badText 10 (line + b)
+      go (steps read) q = absurd (n q)
+      go (bad k) q = rw q
+
+  pub bad-most : b ≤ length text
+  bad-most = go (readSteps 1 text) (sized text) e
+    where
+      go : (r : StepsRead) → Sized 1 text r → b ≡ badLine r → b ≤ length text
+      go (steps read) w q = omega arith
+      go (bad k) w q = omega arith
+
+-- ---- the rules before them
+
+pub lines-few : (input : List ℕ) → suc (length (readLines input .rules)) ≤ 129
+lines-few input = omega (arith, reads-lines input .few)
+
+pub lines-within : (input : List ℕ) → readLines input .length ≤ length input
+lines-within input =
+    let r = reads-lines input in
+    omega (arith, r .bytes, ap length (r .reads), length-append (listText 1 (readLines input .rules)) (r .rest))
+
+module _ (input : List ℕ) (prefix : Prefix) (e : prefix ≡ prefixOf (readLines input)) where
+  pub prefix-list : prefix .list ≡ listOf (readLines input .rules)
+  unfolding prefixOf
+  prefix-list = ap (λ (p : Prefix). p .list) e
+
+  pub prefix-line : prefix .line ≡ suc (length (readLines input .rules))
+  unfolding prefixOf
+  prefix-line = ap (λ (p : Prefix). p .line) e
+
+  pub prefix-number : prefix .number ≡ readLines input .number
+  unfolding prefixOf
+  prefix-number = ap (λ (p : Prefix). p .number) e
+
+  pub prefix-length : prefix .length ≡ readLines input .length
+  unfolding prefixOf
+  prefix-length = ap (λ (p : Prefix). p .length) e
+
+  pub prefix-within : prefix .length ≤ length input
+  prefix-within = omega (arith, prefix-length, lines-within input)
+
+  pub remaining : take (length input - prefix .length) (drop (prefix .length) input) ≡ drop (readLines input .length) input
+  remaining = rest input (prefix .length) ∙ ap (λ (n : ℕ). drop n input) prefix-length
+
+-- ---- the whole response
+
+pub too-long : (input : List ℕ) → 65536 < length input → responseOf input ≡ badText 19 0
+unfolding responseOf
+too-long input h = rw (lt-ltb 65536 (length input) h)
+
+pub not-too-long : (input : List ℕ) → length input ≤ 65536 → responseOf input ≡ afterRules (readLines input) (drop (readLines input .length) input)
+unfolding responseOf
+not-too-long input h = rw (le-ltb 65536 (length input) h)
+
+pub without-steps : (lines : LinesRead) (text : List ℕ) → startsSteps text ≡ false → afterRules lines text ≡ badText (numberOf (lines .number)) (suc (length (lines .rules)))
+unfolding afterRules
+without-steps lines text h = rw h
+
+pub with-steps : (lines : LinesRead) (text : List ℕ) → startsSteps text ≡ true
+    → afterRules lines text ≡ stepsResponse (listOf (lines .rules)) (suc (length (lines .rules))) (readSteps 1 (drop 8 text))
+unfolding afterRules
+with-steps lines text h = rw h
+
+module _ (input : List ℕ) (h : length input ≤ 65536) (prefix : Prefix) (e : prefix ≡ prefixOf (readLines input))
+    (l : List ℕ) (p : l ≡ take (length input - prefix .length) (drop (prefix .length) input)) where
+  left : l ≡ drop (readLines input .length) input
+  left = p ∙ remaining input prefix e
+
+  pub response-without : (number : ℕ) → number ≡ numberOf (prefix .number) → startsSteps l ≡ false → responseOf input ≡ badText number (prefix .line)
+  response-without number n f =
+      not-too-long input h
+      ∙ without-steps (readLines input) (drop (readLines input .length) input) (subst (λ (x : List ℕ). startsSteps x ≡ false) left f)
+      ∙ rw (n, prefix-number input prefix e, prefix-line input prefix e)
+
+  pub response-with : (m : List ℕ) → m ≡ take (length l - 8) (drop 8 l) → startsSteps l ≡ true → responseOf input ≡ stepsResponse (prefix .list) (prefix .line) (readSteps 1 m)
+  response-with m q t =
+      not-too-long input h
+      ∙ with-steps (readLines input) (drop (readLines input .length) input) (subst (λ (x : List ℕ). startsSteps x ≡ true) left t)
+      ∙ rw (q, rest l 8, left, prefix-list input prefix e, prefix-line input prefix e)
+
+-- ---- "with 131,072 bytes of room never 18"
+
+steps-short : (list : RuleList) (line : ℕ) (text : List ℕ) → line ≤ 129 → length text ≤ 65536 → length (stepsResponse list line (readSteps 1 text)) ≤ 131072
+unfolding stepsResponse
+steps-short list line text l h = go (readSteps 1 text) (sized text)
+  where
+    go : (r : StepsRead) → Sized 1 text r → length (stepsResponse list line r) ≤ 131072
+    go (steps read) w = omega (arith, answers-short list fresh read fresh-accepted)
+    go (bad k) w = omega (arith, bad-short 10 (line + k) (omega arith) (omega arith))
+
+cause-small : {n : ℕ} {text : List ℕ} {number : ℕ} → Cause n text number → number < 100
+cause-small (no-form none) = omega arith
+cause-small (out-of-range k values stands out) = omega arith
+cause-small (not-next m rule stands other) = omega arith
+cause-small (same-twice rule stands twice) = omega arith
+cause-small (unsound rule stands distinct sound) = omega arith
+
+number-small : (input : List ℕ) → numberOf (readLines input .number) < 100
+unfolding numberOf
+number-small input = go (reads-lines input .stops)
+  where
+    small : (n : ℕ) → n < 100 → cond (eqb n 0) 10 n < 100
+    small zero h = omega arith
+    small (suc n) h = rw (ne-eqb (suc n) 0 (λ q. omega arith)) h
+
+    go : ((readLines input .number ≡ 0) × (reads-lines input .rest ≡ [])) ⊎ ((0 < length (reads-lines input .rest)) × Cause (1 + length (readLines input .rules)) (reads-lines input .rest) (readLines input .number))
+        → cond (eqb (readLines input .number) 0) 10 (readLines input .number) < 100
+    go (inl h) = small (readLines input .number) (omega (arith, h .0))
+    go (inr h) = small (readLines input .number) (cause-small (h .1))
+
+pub response-short : (input : List ℕ) → length (responseOf input) ≤ 131072
+unfolding responseOf
+response-short input = go (ltb 65536 (length input)) refl (startsSteps (drop (readLines input .length) input)) refl
+  where
+    go : (x : Bool) → ltb 65536 (length input) ≡ x → (y : Bool) → startsSteps (drop (readLines input .length) input) ≡ y
+        → length (cond x (badText 19 0) (afterRules (readLines input) (drop (readLines input .length) input))) ≤ 131072
+    go true p y q = omega (arith, bad-short 19 0 (omega arith) (omega arith))
+    go false p true q =
+        let short = steps-short (listOf (readLines input .rules)) (suc (length (readLines input .rules))) (drop 8 (drop (readLines input .length) input))
+        (lines-few input)
+        (omega (arith, ltb-false 65536 (length input) p, length-drop 8 (drop (readLines input .length) input), length-drop (readLines input .length) input)) in
+        rw (with-steps (readLines input) (drop (readLines input .length) input) q) short
+    go false p false q =
+        rw (without-steps (readLines input) (drop (readLines input .length) input) q)
+        (omega (arith, bad-short (numberOf (readLines input .number)) (suc (length (readLines input .rules))) (number-small input) (omega (arith, lines-few input))))

@@ -1,0 +1,42 @@
+-- Document 01, 'Texts': "The program `gate` reads at most 65,536 bytes from standard input: rules, `(steps)`, steps."
+-- Assumes nothing.
+use Prim.Native.Nat.{ℕ, suc, _+_}
+use mathlib.Core.Bool.{Bool, cond}
+use mathlib.Core.List.{List}
+use lib.ListN.{length, drop}
+use lib.Dec.{eqb, ltb}
+use Rattle.forms.specs.Tables.{bytes, found}
+use Rattle.rules.specs.declared.lists.RuleList.{RuleList}
+use Rattle.enforcement.specs.States.{fresh}
+use Rattle.enforcement.specs.Gate.{runOf}
+use Rattle.rule_text.specs.Reading.{LinesRead, readLines, listOf}
+use Rattle.step_text.specs.Lines.{StepsRead, steps, bad, readSteps}
+use Rattle.step_text.specs.Answers.{badText, answersText}
+
+-- the line `(steps)`, a table of one form
+unfoldable pub stepsForm : List ℕ
+stepsForm = bytes "(steps)\n"
+
+unfoldable pub startsSteps : List ℕ → Bool
+startsSteps text = eqb (found stepsForm text .form) 0
+
+-- "It prints `(yes selected ended)` or `(no number rule selected)` for each step, or only `(bad number line)`"; lines are counted over
+-- the whole input, and `line` is that of `(steps)`
+unfoldable pub stepsResponse : RuleList → ℕ → StepsRead → List ℕ
+stepsResponse list line (steps read) = answersText (runOf list fresh read)
+stepsResponse list line (bad k) = badText 10 (line + k)
+
+-- "A missing `(steps)` is 10 at the line after the last"
+unfoldable pub numberOf : ℕ → ℕ
+numberOf number = cond (eqb number 0) 10 number
+
+-- what follows the good lines of the rules
+unfoldable pub afterRules : LinesRead → List ℕ → List ℕ
+afterRules rules rest =
+    cond (startsSteps rest)
+    (stepsResponse (listOf (rules .rules)) (suc (length (rules .rules))) (readSteps 1 (drop 8 rest)))
+    (badText (numberOf (rules .number)) (suc (length (rules .rules))))
+
+-- "19 has line 0 and comes before all else"
+unfoldable pub responseOf : List ℕ → List ℕ
+responseOf input = cond (ltb 65536 (length input)) (badText 19 0) (afterRules (readLines input) (drop (readLines input .length) input))
