@@ -1,3 +1,4 @@
 pub mod Stepping
 pub mod Runs
 pub mod Sizes
+pub mod Causes

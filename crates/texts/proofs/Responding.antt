@@ -29,7 +29,7 @@ use Rattle.step_text.specs.Answers.{badText, answersText}
 use Rattle.step_text.specs.Running.{answersFrom}
 use Rattle.step_text.proofs.Runs.{Runs, answers-run, Positive, positive}
 use Rattle.step_text.proofs.Sizes.{Sized, sized, answers-short, bad-short}
-use Rattle.texts.specs.Response.{stepsForm, startsSteps, stepsResponse, numberOf, afterRules, responseOf}
+use Rattle.texts.specs.Response.{stepsForm, startsSteps, Outcome, badAt, ran, stepsOutcome, numberOf, afterRules, outcomeOf, outcomeText, responseOf}
 
 -- ---- the line `(steps)`
 
@@ -59,19 +59,19 @@ starts-room text h =
 -- ---- the steps
 
 module _ (list : RuleList) (line : ℕ) (text : List ℕ) (b : ℕ) (e : b ≡ badLine (readSteps 1 text)) where
-  pub steps-answered : b ≡ 0 → stepsResponse list line (readSteps 1 text) ≡ answersFrom (length text) list fresh text
-  unfolding stepsResponse
+  pub steps-answered : b ≡ 0 → outcomeText (stepsOutcome list line (readSteps 1 text)) ≡ answersFrom (length text) list fresh text
+  unfolding stepsOutcome outcomeText
   steps-answered z = go (readSteps 1 text) (answers-run 1 list fresh text) (positive text) (sym e ∙ z)
     where
-      go : (r : StepsRead) → Runs list fresh (answersFrom (length text) list fresh text) r → Positive r → badLine r ≡ 0 → stepsResponse list line r ≡ answersFrom (length text) list fresh text
+      go : (r : StepsRead) → Runs list fresh (answersFrom (length text) list fresh text) r → Positive r → badLine r ≡ 0 → outcomeText (stepsOutcome list line r) ≡ answersFrom (length text) list fresh text
       go (steps read) runs p q = sym runs
       go (bad k) runs p q = absurd (omega arith)
 
-  pub steps-refused : (b ≡ 0 → ⊥) → stepsResponse list line (readSteps 1 text) ≡ badText 10 (line + b)
-  unfolding stepsResponse
+  pub steps-refused : (b ≡ 0 → ⊥) → outcomeText (stepsOutcome list line (readSteps 1 text)) ≡ badText 10 (line + b)
+  unfolding stepsOutcome outcomeText
   steps-refused n = go (readSteps 1 text) e
     where
-      go : (r : StepsRead) → b ≡ badLine r → stepsResponse list line r ≡ badText 10 (line + b)
+      go : (r : StepsRead) → b ≡ badLine r → outcomeText (stepsOutcome list line r) ≡ badText 10 (line + b)
       go (steps read) q = absurd (n q)
       go (bad k) q = rw q
 
@@ -118,19 +118,19 @@ module _ (input : List ℕ) (prefix : Prefix) (e : prefix ≡ prefixOf (readLine
 -- ---- the whole response
 
 pub too-long : (input : List ℕ) → 65536 < length input → responseOf input ≡ badText 19 0
-unfolding responseOf
+unfolding outcomeOf outcomeText
 too-long input h = rw (lt-ltb 65536 (length input) h)
 
-pub not-too-long : (input : List ℕ) → length input ≤ 65536 → responseOf input ≡ afterRules (readLines input) (drop (readLines input .length) input)
-unfolding responseOf
+not-too-long : (input : List ℕ) → length input ≤ 65536 → outcomeOf input ≡ afterRules (readLines input) (drop (readLines input .length) input)
+unfolding outcomeOf
 not-too-long input h = rw (le-ltb 65536 (length input) h)
 
-pub without-steps : (lines : LinesRead) (text : List ℕ) → startsSteps text ≡ false → afterRules lines text ≡ badText (numberOf (lines .number)) (suc (length (lines .rules)))
+without-steps : (lines : LinesRead) (text : List ℕ) → startsSteps text ≡ false → afterRules lines text ≡ badAt (numberOf (lines .number)) (suc (length (lines .rules)))
 unfolding afterRules
 without-steps lines text h = rw h
 
-pub with-steps : (lines : LinesRead) (text : List ℕ) → startsSteps text ≡ true
-    → afterRules lines text ≡ stepsResponse (listOf (lines .rules)) (suc (length (lines .rules))) (readSteps 1 (drop 8 text))
+with-steps : (lines : LinesRead) (text : List ℕ) → startsSteps text ≡ true
+    → afterRules lines text ≡ stepsOutcome (listOf (lines .rules)) (suc (length (lines .rules))) (readSteps 1 (drop 8 text))
 unfolding afterRules
 with-steps lines text h = rw h
 
@@ -140,54 +140,56 @@ module _ (input : List ℕ) (h : length input ≤ 65536) (prefix : Prefix) (e : 
   left = p ∙ remaining input prefix e
 
   pub response-without : (number : ℕ) → number ≡ numberOf (prefix .number) → startsSteps l ≡ false → responseOf input ≡ badText number (prefix .line)
+  unfolding outcomeText
   response-without number n f =
-      not-too-long input h
-      ∙ without-steps (readLines input) (drop (readLines input .length) input) (subst (λ (x : List ℕ). startsSteps x ≡ false) left f)
+      ap outcomeText (not-too-long input h ∙ without-steps (readLines input) (drop (readLines input .length) input) (subst (λ (x : List ℕ). startsSteps x ≡ false) left f))
       ∙ rw (n, prefix-number input prefix e, prefix-line input prefix e)
 
-  pub response-with : (m : List ℕ) → m ≡ take (length l - 8) (drop 8 l) → startsSteps l ≡ true → responseOf input ≡ stepsResponse (prefix .list) (prefix .line) (readSteps 1 m)
+  pub response-with : (m : List ℕ) → m ≡ take (length l - 8) (drop 8 l) → startsSteps l ≡ true → responseOf input ≡ outcomeText (stepsOutcome (prefix .list) (prefix .line) (readSteps 1 m))
   response-with m q t =
-      not-too-long input h
-      ∙ with-steps (readLines input) (drop (readLines input .length) input) (subst (λ (x : List ℕ). startsSteps x ≡ true) left t)
+      ap outcomeText (not-too-long input h ∙ with-steps (readLines input) (drop (readLines input .length) input) (subst (λ (x : List ℕ). startsSteps x ≡ true) left t))
       ∙ rw (q, rest l 8, left, prefix-list input prefix e, prefix-line input prefix e)
 
 -- ---- "with 131,072 bytes of room never 18"
 
-steps-short : (list : RuleList) (line : ℕ) (text : List ℕ) → line ≤ 129 → length text ≤ 65536 → length (stepsResponse list line (readSteps 1 text)) ≤ 131072
-unfolding stepsResponse
+steps-short : (list : RuleList) (line : ℕ) (text : List ℕ) → line ≤ 129 → length text ≤ 65536 → length (outcomeText (stepsOutcome list line (readSteps 1 text))) ≤ 131072
+unfolding stepsOutcome outcomeText
 steps-short list line text l h = go (readSteps 1 text) (sized text)
   where
-    go : (r : StepsRead) → Sized 1 text r → length (stepsResponse list line r) ≤ 131072
+    go : (r : StepsRead) → Sized 1 text r → length (outcomeText (stepsOutcome list line r)) ≤ 131072
     go (steps read) w = omega (arith, answers-short list fresh read fresh-accepted)
     go (bad k) w = omega (arith, bad-short 10 (line + k) (omega arith) (omega arith))
 
-cause-small : {n : ℕ} {text : List ℕ} {number : ℕ} → Cause n text number → number < 100
+pub cause-small : {n : ℕ} {text : List ℕ} {number : ℕ} → Cause n text number → number < 15
 cause-small (no-form none) = omega arith
 cause-small (out-of-range k values stands out) = omega arith
 cause-small (not-next m rule stands other) = omega arith
 cause-small (same-twice rule stands twice) = omega arith
 cause-small (unsound rule stands distinct sound) = omega arith
 
-number-small : (input : List ℕ) → numberOf (readLines input .number) < 100
+pub number-small : (input : List ℕ) → numberOf (readLines input .number) < 15
 unfolding numberOf
 number-small input = go (reads-lines input .stops)
   where
-    small : (n : ℕ) → n < 100 → cond (eqb n 0) 10 n < 100
+    small : (n : ℕ) → n < 15 → cond (eqb n 0) 10 n < 15
     small zero h = omega arith
     small (suc n) h = rw (ne-eqb (suc n) 0 (λ q. omega arith)) h
 
     go : ((readLines input .number ≡ 0) × (reads-lines input .rest ≡ [])) ⊎ ((0 < length (reads-lines input .rest)) × Cause (1 + length (readLines input .rules)) (reads-lines input .rest) (readLines input .number))
-        → cond (eqb (readLines input .number) 0) 10 (readLines input .number) < 100
+        → cond (eqb (readLines input .number) 0) 10 (readLines input .number) < 15
     go (inl h) = small (readLines input .number) (omega (arith, h .0))
     go (inr h) = small (readLines input .number) (cause-small (h .1))
 
 pub response-short : (input : List ℕ) → length (responseOf input) ≤ 131072
-unfolding responseOf
+unfolding outcomeOf
 response-short input = go (ltb 65536 (length input)) refl (startsSteps (drop (readLines input .length) input)) refl
   where
+    line-short : (number line : ℕ) → number < 100 → line < 1000000 → length (outcomeText (badAt number line)) ≤ 131072
+    line-short number line h k = unfold outcomeText in omega (arith, bad-short number line h k)
+
     go : (x : Bool) → ltb 65536 (length input) ≡ x → (y : Bool) → startsSteps (drop (readLines input .length) input) ≡ y
-        → length (cond x (badText 19 0) (afterRules (readLines input) (drop (readLines input .length) input))) ≤ 131072
-    go true p y q = omega (arith, bad-short 19 0 (omega arith) (omega arith))
+        → length (outcomeText (cond x (badAt 19 0) (afterRules (readLines input) (drop (readLines input .length) input)))) ≤ 131072
+    go true p y q = line-short 19 0 (omega arith) (omega arith)
     go false p true q =
         let short = steps-short (listOf (readLines input .rules)) (suc (length (readLines input .rules))) (drop 8 (drop (readLines input .length) input))
         (lines-few input)
@@ -195,4 +197,4 @@ response-short input = go (ltb 65536 (length input)) refl (startsSteps (drop (re
         rw (with-steps (readLines input) (drop (readLines input .length) input) q) short
     go false p false q =
         rw (without-steps (readLines input) (drop (readLines input .length) input) q)
-        (omega (arith, bad-short (numberOf (readLines input .number)) (suc (length (readLines input .rules))) (number-small input) (omega (arith, lines-few input))))
+        (line-short (numberOf (readLines input .number)) (suc (length (readLines input .rules))) (omega (arith, number-small input)) (omega (arith, lines-few input)))

@@ -9,6 +9,7 @@ use Rattle.forms.specs.Tables.{bytes, found}
 use Rattle.rules.specs.declared.lists.RuleList.{RuleList}
 use Rattle.enforcement.specs.States.{fresh}
 use Rattle.enforcement.specs.Gate.{runOf}
+use Rattle.enforcement.specs.declared.steps.Step.{Step}
 use Rattle.rule_text.specs.Reading.{LinesRead, readLines, listOf}
 use Rattle.step_text.specs.Lines.{StepsRead, steps, bad, readSteps}
 use Rattle.step_text.specs.Answers.{badText, answersText}
@@ -20,23 +21,35 @@ stepsForm = bytes "(steps)\n"
 unfoldable pub startsSteps : List ℕ → Bool
 startsSteps text = eqb (found stepsForm text .form) 0
 
--- "It prints `(yes selected ended)` or `(no number rule selected)` for each step, or only `(bad number line)`"; lines are counted over
--- the whole input, and `line` is that of `(steps)`
-unfoldable pub stepsResponse : RuleList → ℕ → StepsRead → List ℕ
-stepsResponse list line (steps read) = answersText (runOf list fresh read)
-stepsResponse list line (bad k) = badText 10 (line + k)
+-- what comes of an input: a number and a line, or a list of rules and the steps that run under it
+pub data Outcome : Type 0 where
+  badAt : ℕ → ℕ → Outcome
+  ran : RuleList → List Step → Outcome
+
+-- lines are counted over the whole input; `line` is that of `(steps)`
+unfoldable pub stepsOutcome : RuleList → ℕ → StepsRead → Outcome
+stepsOutcome list line (steps read) = ran list read
+stepsOutcome list line (bad k) = badAt 10 (line + k)
 
 -- "A missing `(steps)` is 10 at the line after the last"
 unfoldable pub numberOf : ℕ → ℕ
 numberOf number = cond (eqb number 0) 10 number
 
 -- what follows the good lines of the rules
-unfoldable pub afterRules : LinesRead → List ℕ → List ℕ
+unfoldable pub afterRules : LinesRead → List ℕ → Outcome
 afterRules rules rest =
     cond (startsSteps rest)
-    (stepsResponse (listOf (rules .rules)) (suc (length (rules .rules))) (readSteps 1 (drop 8 rest)))
-    (badText (numberOf (rules .number)) (suc (length (rules .rules))))
+    (stepsOutcome (listOf (rules .rules)) (suc (length (rules .rules))) (readSteps 1 (drop 8 rest)))
+    (badAt (numberOf (rules .number)) (suc (length (rules .rules))))
 
 -- "19 has line 0 and comes before all else"
-unfoldable pub responseOf : List ℕ → List ℕ
-responseOf input = cond (ltb 65536 (length input)) (badText 19 0) (afterRules (readLines input) (drop (readLines input .length) input))
+unfoldable pub outcomeOf : List ℕ → Outcome
+outcomeOf input = cond (ltb 65536 (length input)) (badAt 19 0) (afterRules (readLines input) (drop (readLines input .length) input))
+
+-- "It prints `(yes selected ended)` or `(no number rule selected)` for each step, or only `(bad number line)`."
+unfoldable pub outcomeText : Outcome → List ℕ
+outcomeText (badAt number line) = badText number line
+outcomeText (ran list read) = answersText (runOf list fresh read)
+
+abbrev pub responseOf : List ℕ → List ℕ
+responseOf input = outcomeText (outcomeOf input)

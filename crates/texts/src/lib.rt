@@ -3,7 +3,7 @@ ghost use mathlib.Core.Path.{_≡_};
 ghost use Prim.Native.Nat.{_≤_};
 ghost use lib.ListN.{length};
 ghost use Rattle.forms.specs.Writing.{Wrote, writtenOf, lentAfter};
-ghost use Rattle.texts.specs.Response.{startsSteps, stepsResponse, numberOf, responseOf};
+ghost use Rattle.texts.specs.Response.{startsSteps, stepsOutcome, numberOf, outcomeText, responseOf};
 ghost use Rattle.step_text.specs.Lines.{readSteps};
 use forms::Written;
 use rules::RuleList;
@@ -47,7 +47,7 @@ fn put_response(input: &[u8], out: &mut [u8], at: usize) -> usize
 // The answers to the steps, every line of which is read before any step runs; `line` is the line before them.
 fn put_steps(list: RuleList, line: usize, text: &[u8], out: &mut [u8], at: usize) -> usize
     requires { ⌜ (line ≤ 129) × (length (now text) ≤ 65536) ⌝ }
-    ensures { λ r. ⌜ Wrote (now (out .entry)) at (stepsResponse list line (readSteps 1 (now (text .entry)))) r (now (out .exit)) ⌝ }
+    ensures { λ r. ⌜ Wrote (now (out .entry)) at (outcomeText (stepsOutcome list line (readSteps 1 (now (text .entry))))) r (now (out .exit)) ⌝ }
 {
     let bad = step_text::first_bad_step(text);
     if bad == 0 {
