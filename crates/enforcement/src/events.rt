@@ -1,8 +1,10 @@
 // What an event ends: one pass over the rules makes a plan, then rounds on sets of roles until nothing changes.
 ghost use mathlib.Core.Path.{_≡_};
-ghost use mathlib.Core.Bool.{true};
+ghost use mathlib.Core.Bool.{true, not, _&&_};
 ghost use Prim.Native.Nat.{_<_, _≤_};
 ghost use lib.ListN.{length};
+ghost use Rattle.sets.specs.Sets.{member};
+ghost use Rattle.places.specs.Places.{sideHolds};
 ghost use Rattle.rules.specs.Acceptance.{rulesOf};
 ghost use Rattle.enforcement.specs.Decisions.{endedPairs, pairCount};
 ghost use Rattle.enforcement.specs.Selection.{selects};
@@ -10,6 +12,7 @@ ghost use Rattle.enforcement.specs.Gate.{sameLists};
 ghost use Rattle.enforcement.specs.Deciding.{context, leftOf, Fewer, Planned, Adds, RuledOut, stayingRoles, planRound, planSettled};
 use crate::selection::selects;
 use crate::steps::Action;
+use places::Position;
 use places::Side;
 use rules::Rule;
 use rules::RuleList;
@@ -200,12 +203,23 @@ fn rule_out(
     for i in 0..32 {
         let session = sessions[i];
         let position = session.position;
-        if word32::member(active[i], role) & !side.holds(position) {
+        if is_misplaced(active[i], role, side, position) {
             let roles = more[i];
             more[i] = word32::with(roles, role);
         }
     }
     more
+}
+
+// A session with these active roles has the role active and is not positioned so. Few sessions have it: the side is looked at for
+// those alone.
+fn is_misplaced(roles: u32, role: usize, side: Side, position: Position) -> bool
+    ensures { λ r. ⌜ r ≡ (member roles role && not (sideHolds side position)) ⌝ }
+{
+    if !word32::member(roles, role) {
+        return false;
+    }
+    !side.holds(position)
 }
 
 // ---- the rounds
