@@ -6,7 +6,7 @@ use mathlib.Core.Path.{_≡_}
 use mathlib.Core.Bool.{Bool, true, not, cond, _&&_, _||_}
 use mathlib.Core.List.{List, []}
 use lib.Dec.{eqb, ltb}
-use lib.ListN.{length}
+use lib.ListN.{length, set}
 use Rattle.sets.specs.Sets.{member, difference, subset, any, oneIf, count, setOf, unionOf}
 use Rattle.places.specs.Places.{sideHolds}
 use Rattle.places.specs.declared.Position.{Position}
@@ -21,6 +21,8 @@ use Rattle.enforcement.specs.Selection.{selects, selectedNumber}
 use Rattle.enforcement.specs.Gate.{testsSelected, keeps, stays, sifted, settled, remaining, refusedNext, requestNext}
 use Rattle.enforcement.specs.declared.states.State.{State}
 use Rattle.enforcement.specs.declared.steps.Action.{Action}
+use Rattle.enforcement.specs.declared.kinds.Effect.{Effect}
+use Rattle.enforcement.specs.declared.steps.Answer.{Answer}
 use Rattle.enforcement.specs.declared.steps.Answer.the-variants.{Granted, Refused}
 use Rattle.enforcement.specs.declared.steps.Next.{Next}
 use Rattle.enforcement.specs.declared.judging.Found.{Found}
@@ -102,6 +104,24 @@ pub record RuledOut (n : ℕ) (out : List ℕ) (sessions : List Session) (active
   pub means : (i q : ℕ) → i < 32 → q < 32 → hasRole more i q ≡ (hasRole out i q || (ltb i n && (eqb r q && (hasRole active i r && not (sideHolds side (sessionAt sessions i .position))))))
 
 -- ---- a step
+
+-- a state by its fields
+abbrev pub stateFrom : ℕ → List ℕ → List ℕ → List Session → List ℕ → List ℕ → State
+stateFrom time assigned granted sessions active history =
+    record { time = time; assigned = assigned; granted = granted; sessions = sessions; active = active; history = history }
+
+-- a state with an answer
+abbrev pub answered : State → Answer → Next
+answered s answer = record { state = s; answer = answer }
+
+-- sessions and time as they were
+unfoldable pub keptEffect : List Session → ℕ → Answer → Effect
+keptEffect sessions time answer = record { session = 0; place = sessionAt sessions 0; time = time; answer = answer }
+
+-- an effect with the fields that are lent as the step leaves them, and the sessions as they were
+abbrev pub effectNext : Effect → List ℕ → List ℕ → List Session → List ℕ → List ℕ → Next
+effectNext effect assigned granted sessions active history =
+    answered (stateFrom (effect .time) assigned granted (set sessions (effect .session) (effect .place)) active history) (effect .answer)
 
 -- a request that has passed its checks, by its target
 unfoldable pub requestOf : List Rule → State → Action → State → Next

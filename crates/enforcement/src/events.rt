@@ -225,7 +225,7 @@ fn is_misplaced(roles: u32, role: usize, side: Side, position: Position) -> bool
 // ---- the rounds
 
 // The sets by value: then each is known to fit its word.
-fn copied(active: &[u32; 32]) -> [u32; 32]
+pub(crate) fn copied(active: &[u32; 32]) -> [u32; 32]
     ensures { λ r. ⌜ r ≡ now (active .entry) ⌝ }
 {
     *active
