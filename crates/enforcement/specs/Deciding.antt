@@ -98,6 +98,10 @@ pub record Adds (isSelected : Bool) (rule : Rule) (s : State) (before after : Pl
       lets (after .dead) (after .out) (after .needs) l i r ≡ (lets (before .dead) (before .out) (before .needs) l i r && (not isSelected || keeps rule s l i r))
   pub number : after .selected ≡ before .selected + oneIf isSelected
 
+-- a plan with one selected rule more that says nothing of any active pair
+abbrev pub countedPlan : Plan → Plan
+countedPlan plan = record { dead = plan .dead; out = plan .out; needs = plan .needs; selected = plan .selected + 1 }
+
 -- role r is ruled out in each of the first n sessions that has it active and is not positioned so
 pub record RuledOut (n : ℕ) (out : List ℕ) (sessions : List Session) (active : List ℕ) (r : ℕ) (side : Side) (more : List ℕ) : Type 0 where
   pub sameLength : length more ≡ 32

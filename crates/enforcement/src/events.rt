@@ -3,13 +3,15 @@ ghost use mathlib.Core.Path.{_≡_};
 ghost use mathlib.Core.Bool.{true, not, _&&_};
 ghost use Prim.Native.Nat.{_<_, _≤_};
 ghost use lib.ListN.{length};
-ghost use Rattle.sets.specs.Sets.{member};
+ghost use Rattle.sets.specs.Sets.{member, unionOf};
 ghost use Rattle.places.specs.Places.{sideHolds};
 ghost use Rattle.rules.specs.Acceptance.{rulesOf};
+ghost use Rattle.rules.specs.Families.{wordAt};
 ghost use Rattle.enforcement.specs.Decisions.{endedPairs, pairCount};
 ghost use Rattle.enforcement.specs.Selection.{selects};
 ghost use Rattle.enforcement.specs.Gate.{sameLists};
-ghost use Rattle.enforcement.specs.Deciding.{context, leftOf, Fewer, Planned, Adds, RuledOut, stayingRoles, planRound, planSettled};
+ghost use Rattle.enforcement.specs.Deciding.{context, leftOf, Fewer, Planned, Adds, RuledOut, countedPlan, stayingRoles, planRound, planSettled};
+use crate::selection::first_of;
 use crate::selection::selects;
 use crate::steps::Action;
 use places::Position;
@@ -88,6 +90,7 @@ fn plan_of(
     ensures { λ r. ⌜ Planned (selects action) (rulesOf list) (context sessions (now (active .entry)) time) r ⌝ }
 {
     let length = list.length;
+    let live = active_somewhere(active);
     let mut plan = Plan {
         dead: 0,
         out: [0; 32],
@@ -98,27 +101,39 @@ fn plan_of(
     while i < length {
         let slot = list.slots[i];
         let rule = slot.rule;
-        plan = consider(plan, rule, action, sessions, active, time);
+        plan = consider(plan, rule, action, sessions, active, live, time);
         i += 1;
     }
     plan
 }
 
-// One rule more, where it is selected.
+// One rule more, where it is selected. A rule on a role that is active nowhere is only counted: it lets every active pair stay.
 fn consider(
     plan: Plan,
     rule: Rule,
     action: Action,
     sessions: [Session; 32],
     active: &[u32; 32],
+    live: u32,
     time: u64,
 ) -> Plan
-    requires { ⌜ (length (plan .out) ≡ 32) × (length (plan .needs) ≡ 32) × (plan .selected < 128) ⌝ }
+    requires { ⌜ (length (plan .out) ≡ 32) × (length (plan .needs) ≡ 32) × (plan .selected < 128) × (live ≡ unionOf 32 (wordAt (now active))) ⌝ }
     ensures { λ r. ⌜ Adds (selects action rule) rule (context sessions (now (active .entry)) time) plan r ⌝ }
 {
-    if selects(action, rule) {
+    if !selects(action, rule) {
+        return plan;
+    }
+    if word32::member(live, first_of(rule)) {
         return with_rule(plan, rule, sessions, active, time);
     }
+    counted(plan)
+}
+
+fn counted(mut plan: Plan) -> Plan
+    requires { ⌜ plan .selected < 128 ⌝ }
+    ensures { λ r. ⌜ r ≡ countedPlan plan ⌝ }
+{
+    plan.selected = plan.selected + 1;
     plan
 }
 

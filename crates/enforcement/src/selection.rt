@@ -93,7 +93,7 @@ fn family_of(rule: Rule) -> usize
 }
 
 // The first role or permission that a rule names; 0 where it names none.
-fn first_of(rule: Rule) -> usize
+pub(crate) fn first_of(rule: Rule) -> usize
     ensures { λ r. ⌜ r ≡ first rule ⌝ }
 {
     match rule {
