@@ -7,7 +7,7 @@ use mathlib.Core.Bool.{Bool, true, not, cond, _&&_, _||_}
 use mathlib.Core.List.{List, []}
 use lib.Dec.{eqb, ltb}
 use lib.ListN.{length, set}
-use Rattle.sets.specs.Sets.{member, difference, subset, any, oneIf, count, setOf, unionOf}
+use Rattle.sets.specs.Sets.{member, union, difference, subset, any, oneIf, count, setOf, unionOf}
 use Rattle.places.specs.Places.{sideHolds}
 use Rattle.places.specs.declared.Position.{Position}
 use Rattle.places.specs.declared.Side.{Side}
@@ -17,7 +17,7 @@ use Rattle.rules.specs.declared.sessions.Session.{Session}
 use Rattle.enforcement.specs.States.{isOpen, activeRole}
 use Rattle.enforcement.specs.Steps.{withActive, placed}
 use Rattle.enforcement.specs.Decisions.{Lowest, unbroken, broken, lowest, endedPairs, pairCount}
-use Rattle.enforcement.specs.Selection.{selects, selectedNumber}
+use Rattle.enforcement.specs.Selection.{family, hasFirst, hasSecond, selects, selectedNumber}
 use Rattle.enforcement.specs.Gate.{testsSelected, keeps, stays, sifted, settled, remaining, refusedNext, requestNext}
 use Rattle.enforcement.specs.declared.states.State.{State}
 use Rattle.enforcement.specs.declared.steps.Action.{Action}
@@ -25,11 +25,27 @@ use Rattle.enforcement.specs.declared.kinds.Effect.{Effect}
 use Rattle.enforcement.specs.declared.steps.Answer.{Answer}
 use Rattle.enforcement.specs.declared.steps.Answer.the-variants.{Granted, Refused}
 use Rattle.enforcement.specs.declared.steps.Next.{Next}
+use Rattle.enforcement.specs.declared.selection.Choice.{Choice}
 use Rattle.enforcement.specs.declared.judging.Found.{Found}
 use Rattle.enforcement.specs.declared.judging.Found.the-variants as found
 use Rattle.enforcement.specs.declared.judging.Judged.{Judged}
 use Rattle.enforcement.specs.declared.events.Plan.{Plan}
 use Rattle.enforcement.specs.declared.events.Left.{Left}
+
+-- ---- the selection
+
+-- the rules of some families, and of others those that name the number first, or second
+abbrev pub choiceOf : ℕ → ℕ → ℕ → ℕ → Choice
+choiceOf whole byFirst bySecond named =
+    record { families = union (union whole byFirst) bySecond; whole = whole; «by_first» = byFirst; «by_second» = bySecond; named = named }
+
+-- what a choice says of a rule of family f that names its number first, or second
+abbrev pub chosenAt : Choice → ℕ → Bool → Bool → Bool
+chosenAt choice f isFirst isSecond =
+    member (choice .families) f && (member (choice .whole) f || ((member (choice .«by_first») f && isFirst) || (member (choice .«by_second») f && isSecond)))
+
+unfoldable pub chosen : Choice → Rule → Bool
+chosen choice rule = chosenAt choice (family rule) (hasFirst (choice .named) rule) (hasSecond (choice .named) rule)
 
 -- ---- a request
 

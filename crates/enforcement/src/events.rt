@@ -10,9 +10,11 @@ ghost use Rattle.rules.specs.Families.{wordAt};
 ghost use Rattle.enforcement.specs.Decisions.{endedPairs, pairCount};
 ghost use Rattle.enforcement.specs.Selection.{selects};
 ghost use Rattle.enforcement.specs.Gate.{sameLists};
-ghost use Rattle.enforcement.specs.Deciding.{context, leftOf, Fewer, Planned, Adds, RuledOut, countedPlan, stayingRoles, planRound, planSettled};
+ghost use Rattle.enforcement.specs.Deciding.{chosen, context, leftOf, Fewer, Planned, Adds, RuledOut, countedPlan, stayingRoles, planRound, planSettled};
+use crate::selection::Choice;
+use crate::selection::choice_of;
 use crate::selection::first_of;
-use crate::selection::selects;
+use crate::selection::is_chosen;
 use crate::steps::Action;
 use places::Position;
 use places::Side;
@@ -90,6 +92,7 @@ fn plan_of(
     ensures { λ r. ⌜ Planned (selects action) (rulesOf list) (context sessions (now (active .entry)) time) r ⌝ }
 {
     let length = list.length;
+    let choice = choice_of(action);
     let live = active_somewhere(active);
     let mut plan = Plan {
         dead: 0,
@@ -101,7 +104,7 @@ fn plan_of(
     while i < length {
         let slot = list.slots[i];
         let rule = slot.rule;
-        plan = consider(plan, rule, action, sessions, active, live, time);
+        plan = consider(plan, rule, choice, sessions, active, live, time);
         i += 1;
     }
     plan
@@ -111,16 +114,16 @@ fn plan_of(
 fn consider(
     plan: Plan,
     rule: Rule,
-    action: Action,
+    choice: Choice,
     sessions: [Session; 32],
     active: &[u32; 32],
     live: u32,
     time: u64,
 ) -> Plan
     requires { ⌜ (length (plan .out) ≡ 32) × (length (plan .needs) ≡ 32) × (plan .selected < 128) × (live ≡ unionOf 32 (wordAt (now active))) ⌝ }
-    ensures { λ r. ⌜ Adds (selects action rule) rule (context sessions (now (active .entry)) time) plan r ⌝ }
+    ensures { λ r. ⌜ Adds (chosen choice rule) rule (context sessions (now (active .entry)) time) plan r ⌝ }
 {
-    if !selects(action, rule) {
+    if !is_chosen(choice, rule) {
         return plan;
     }
     if word32::member(live, first_of(rule)) {
