@@ -8,7 +8,6 @@ ghost use Rattle.rules.specs.Acceptance.{rulesOf};
 ghost use Rattle.rules.specs.Families.{hasRole, isActiveFor};
 ghost use Rattle.rules.specs.declared.families.Rule.{Rule};
 ghost use Rattle.rules.specs.declared.sessions.Session.{Session};
-ghost use Rattle.enforcement.specs.Steps.{actionOf};
 ghost use Rattle.enforcement.specs.Gate.{decide};
 ghost use Rattle.enforcement.specs.Deciding.{stateFrom, answered, effectNext, keptEffect, isCarried, requestOf, eventOf, placedOf};
 use crate::events::copied;
@@ -19,7 +18,6 @@ use crate::judging::Found;
 use crate::judging::judge;
 use crate::steps::Action;
 use crate::steps::Answer;
-use crate::steps::Step;
 use places::Position;
 use rules::RuleList;
 use rules::Session;
@@ -32,137 +30,6 @@ pub struct Effect {
     pub place: Session,
     pub time: u64,
     pub answer: Answer,
-}
-
-// A step by its kind.
-pub(crate) fn effect_of<'a>(
-    list: RuleList,
-    step: Step,
-    assigned: &'a mut [u32; 64],
-    granted: &'a mut [u32; 32],
-    sessions: [Session; 32],
-    active: &'a mut [u32; 32],
-    history: &'a mut [u64; 1024],
-    time: u64,
-) -> Effect
-    requires { ⌜ (list .length ≤ 128) × (length (now assigned) ≡ 64) × (length (now granted) ≡ 32) × (length (now active) ≡ 32) × (length (now history) ≡ 1024) ⌝ }
-    ensures { λ r. ⌜ (r .session < 32) × (effectNext r (now (assigned .exit)) (now (granted .exit)) sessions (now (active .exit)) (now (history .exit)) ≡ decide (rulesOf list) (stateFrom time (now (assigned .entry)) (now (granted .entry)) sessions (now (active .entry)) (now (history .entry))) (actionOf step)) ⌝ }
-{
-    match step.action() {
-        Action::Malformed => kept(sessions, time, Answer::Refused { number: 20 }),
-        Action::Assign { user, role } => {
-            let answer = assign(
-                list,
-                user,
-                role,
-                assigned,
-                granted,
-                sessions,
-                active,
-                history,
-                time,
-            );
-            kept(sessions, time, answer)
-        }
-        Action::Withdraw { user, role } => {
-            let answer = withdraw(
-                list,
-                user,
-                role,
-                assigned,
-                granted,
-                sessions,
-                active,
-                history,
-                time,
-            );
-            kept(sessions, time, answer)
-        }
-        Action::Grant { role, permission } => {
-            let answer = grant(
-                list,
-                role,
-                permission,
-                assigned,
-                granted,
-                sessions,
-                active,
-                history,
-                time,
-            );
-            kept(sessions, time, answer)
-        }
-        Action::Take { role, permission } => kept(sessions, time, take(role, permission, granted)),
-        Action::Open { session, user } => open_session(session, user, sessions, time),
-        Action::Activate { session, role } => {
-            let answer = activate(
-                list,
-                session,
-                role,
-                assigned,
-                granted,
-                sessions,
-                active,
-                history,
-                time,
-            );
-            kept(sessions, time, answer)
-        }
-        Action::Deactivate { session, role } => {
-            let answer = deactivate(
-                list,
-                session,
-                role,
-                assigned,
-                granted,
-                sessions,
-                active,
-                history,
-                time,
-            );
-            kept(sessions, time, answer)
-        }
-        Action::Access {
-            session,
-            permission,
-            object,
-        } => {
-            let answer = access(
-                list,
-                session,
-                permission,
-                object,
-                assigned,
-                granted,
-                sessions,
-                active,
-                history,
-                time,
-            );
-            kept(sessions, time, answer)
-        }
-        Action::Finish { object } => kept(sessions, time, finish(object, history)),
-        Action::Close { session } => close(list, session, sessions, active, time),
-        Action::Move { session, point } => placed(
-            list,
-            Action::Move { session, point },
-            session,
-            Position::Known(point),
-            sessions,
-            active,
-            time,
-        ),
-        Action::Lost { session } => placed(
-            list,
-            Action::Lost { session },
-            session,
-            Position::Unknown,
-            sessions,
-            active,
-            time,
-        ),
-        Action::Clock { time: later } => clock(list, later, sessions, active, time),
-    }
 }
 
 // Sessions and time stay.
@@ -180,7 +47,7 @@ fn kept(sessions: [Session; 32], time: u64, answer: Answer) -> Effect
 
 // ---- requests
 
-fn assign<'a>(
+pub(crate) fn assign<'a>(
     list: RuleList,
     user: usize,
     role: usize,
@@ -214,7 +81,7 @@ fn assign<'a>(
     )
 }
 
-fn withdraw<'a>(
+pub(crate) fn withdraw<'a>(
     list: RuleList,
     user: usize,
     role: usize,
@@ -251,7 +118,7 @@ fn withdraw<'a>(
     )
 }
 
-fn grant<'a>(
+pub(crate) fn grant<'a>(
     list: RuleList,
     role: usize,
     permission: usize,
@@ -285,7 +152,7 @@ fn grant<'a>(
     )
 }
 
-fn take(role: usize, permission: usize, granted: &mut [u32; 32]) -> Answer
+pub(crate) fn take(role: usize, permission: usize, granted: &mut [u32; 32]) -> Answer
     requires { ⌜ (role < 32) × (permission < 32) × (length (now granted) ≡ 32) ⌝ }
     ensures { λ r. ⌜ ((rules : List Rule) (time : ℕ) (assigned : List ℕ) (sessions : List Session) (active history : List ℕ) → answered (stateFrom time assigned (now (granted .exit)) sessions active history) r ≡ decide rules (stateFrom time assigned (now (granted .entry)) sessions active history) (Action.Take role permission)) ⌝ }
 {
@@ -297,7 +164,12 @@ fn take(role: usize, permission: usize, granted: &mut [u32; 32]) -> Answer
     granted_plainly()
 }
 
-fn open_session(session: usize, user: usize, sessions: [Session; 32], time: u64) -> Effect
+pub(crate) fn open_session(
+    session: usize,
+    user: usize,
+    sessions: [Session; 32],
+    time: u64,
+) -> Effect
     requires { ⌜ (session < 32) × (user < 64) ⌝ }
     ensures { λ r. ⌜ (r .session < 32) × ((rules : List Rule) (assigned granted active history : List ℕ) → effectNext r assigned granted sessions active history ≡ decide rules (stateFrom time assigned granted sessions active history) (Action.Open session user)) ⌝ }
 {
@@ -318,7 +190,7 @@ fn open_session(session: usize, user: usize, sessions: [Session; 32], time: u64)
     }
 }
 
-fn activate<'a>(
+pub(crate) fn activate<'a>(
     list: RuleList,
     session: usize,
     role: usize,
@@ -359,7 +231,7 @@ fn activate<'a>(
     )
 }
 
-fn deactivate<'a>(
+pub(crate) fn deactivate<'a>(
     list: RuleList,
     session: usize,
     role: usize,
@@ -397,7 +269,7 @@ fn deactivate<'a>(
     )
 }
 
-fn access<'a>(
+pub(crate) fn access<'a>(
     list: RuleList,
     session: usize,
     permission: usize,
@@ -442,7 +314,7 @@ fn access<'a>(
     )
 }
 
-fn finish(object: usize, history: &mut [u64; 1024]) -> Answer
+pub(crate) fn finish(object: usize, history: &mut [u64; 1024]) -> Answer
     requires { ⌜ (object < 32) × (length (now history) ≡ 1024) ⌝ }
     ensures { λ r. ⌜ ((rules : List Rule) (time : ℕ) (assigned granted : List ℕ) (sessions : List Session) (active : List ℕ) → answered (stateFrom time assigned granted sessions active (now (history .exit))) r ≡ decide rules (stateFrom time assigned granted sessions active (now (history .entry))) (Action.Finish object)) ⌝ }
 {
@@ -604,7 +476,7 @@ fn with_history<'a>(
 
 // ---- events
 
-fn close(
+pub(crate) fn close(
     list: RuleList,
     session: usize,
     mut sessions: [Session; 32],
@@ -637,7 +509,7 @@ fn close(
 }
 
 // move and lost
-fn placed(
+pub(crate) fn placed(
     list: RuleList,
     action: Action,
     session: usize,
@@ -669,7 +541,7 @@ fn placed(
     }
 }
 
-fn clock(
+pub(crate) fn clock(
     list: RuleList,
     later: u64,
     sessions: [Session; 32],

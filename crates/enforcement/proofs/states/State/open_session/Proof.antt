@@ -1,0 +1,21 @@
+-- `enforcement::states::State::open_session` meets its contract.
+-- Assumes nothing.
+use borrow.Author.Needs.{needs}
+use Rattle.enforcement.proofs.states.State.open_session.Statement.{statement}
+use Rattle.enforcement.proofs.states.State.open_session.Tie as tie
+
+open-session-requires : tie.Need-open-session-requires
+open-session-requires c κs = search needs
+
+mul-place : tie.Need-mul-place
+mul-place c = search needs
+
+element-set-from-place : tie.Need-element-set-from-place
+element-set-from-place c = search needs
+
+returns : tie.Need-returns
+returns c = c .before .open-session .ensures .1 _ _ _ _ _
+
+pub open-session-spec : {M : Type 1} → statement M
+open-session-spec =
+    tie.close (tie.spec open-session-requires mul-place element-set-from-place returns)
