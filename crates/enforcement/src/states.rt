@@ -103,7 +103,8 @@ impl State {
         }
     }
 
-    // ---- the thirteen kinds, with numbers in range: each lends the fields of the state to the function of its kind
+    // ---- the thirteen kinds, with numbers in range: each lends the fields of its state to the function of its kind in `kinds`.
+    // No field of a struct can be lent beside one that is lent as `&mut`: there the small fields are copied, never the history.
 
     fn assign(mut self, list: RuleList, user: usize, role: usize) -> Next
         requires { ⌜ (list .length ≤ 128) × (user < 64) × (role < 32) ⌝ }
