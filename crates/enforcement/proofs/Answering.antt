@@ -3,9 +3,13 @@
 use mathlib.Core.Path.{_≡_, refl, sym, ap, ap₂, _∙_, subst}
 use mathlib.Core.Bool.{Bool, true, false, not, cond, _&&_, _||_}
 use mathlib.Core.List.{List, [], _∷_}
-use Prim.Native.Nat.{ℕ, suc, _≤_}
+use Prim.Native.Nat.{ℕ, suc, _≤_, _<_}
+use native.Mathlib.Omega.{arith}
 use lib.Dec.{leb}
 use lib.ListN.{set}
+use lib.Seq.{set-getD}
+use Rattle.rules.specs.Families.{closedSession}
+use Rattle.rules.specs.declared.sessions.Session.{Session}
 use borrow.Author.Tests.{leb-true}
 use Rattle.sets.proofs.Booleans.{both}
 use Rattle.places.specs.declared.Point.{Point}
@@ -20,7 +24,9 @@ use Rattle.enforcement.specs.Steps.{passes, refuseIf, check, target, act
 use Rattle.enforcement.specs.Decisions.{endedPairs, pairCount}
 use Rattle.enforcement.specs.Selection.{selects, selectedNumber}
 use Rattle.enforcement.specs.Gate.{keeps, stays, round, remaining, refusedNext, passedNext, checkedNext, decide, stepOf}
-use Rattle.enforcement.specs.Deciding.{context, leftOf, eventOf, placedOf}
+use Rattle.enforcement.specs.Deciding.{context, leftOf, stateFrom, answered, keptEffect, effectNext, eventOf, placedOf}
+use Rattle.enforcement.specs.declared.kinds.Effect.{Effect}
+use Rattle.enforcement.specs.declared.steps.Answer.{Answer}
 use Rattle.enforcement.specs.declared.states.State.{State}
 use Rattle.enforcement.specs.declared.steps.Step.{Step}
 use Rattle.enforcement.specs.declared.steps.Action.{Action}
@@ -93,6 +99,19 @@ module _ (rules : List Rule) (s : State) (i : ℕ) where
       go : (b : Bool) → cond b (eventOf rules (s .active) (placed s i Unknown) (Lost i)) (refusedNext s (Refused 23)) ≡ checkedNext (refuseIf (not b) 23 passes) rules s (Lost i)
       go true = refl
       go false = refl
+
+-- ---- a step that leaves sessions and time as they were
+
+module _ (sessions : List Session) (time : ℕ) (answer : Answer) (effect : Effect) (is : effect ≡ keptEffect sessions time answer) where
+  pub kept-next : (assigned granted active history : List ℕ) → effectNext effect assigned granted sessions active history ≡ answered (stateFrom time assigned granted sessions active history) answer
+  unfolding keptEffect
+  kept-next assigned granted active history =
+      ap (λ (e : Effect). effectNext e assigned granted sessions active history) is
+      ∙ ap (λ (l : List Session). answered (stateFrom time assigned granted l active history) answer) (set-getD sessions 0 closedSession)
+
+  pub kept-session : effect .session < 32
+  unfolding keptEffect
+  kept-session = rw (is) (omega arith)
 
 -- ---- a step by the action that is read of it
 

@@ -14,7 +14,7 @@ use lib.ListN.{length, getD, replicate, length-set, length-replicate, getD-repli
 use borrow.Author.Tests.{eq-eqb, ne-eqb, eqb-true, lt-ltb, le-ltb}
 use Rattle.sets.specs.Sets.{member, with, subset, any, unionOf}
 use Rattle.sets.proofs.Booleans.{clash, both-true, left-true, right-true, left-or, right-or, of-or, not-so, same-test}
-use Rattle.sets.proofs.Bounded.{of-any}
+use Rattle.sets.proofs.Bounded.{of-any, any-of}
 use Rattle.sets.proofs.Members.{member-empty, member-with}
 use Rattle.sets.proofs.Width.{member-past, subset-means}
 use Rattle.sets.proofs.Built.{member-union-of}
@@ -25,14 +25,14 @@ use Rattle.places.specs.declared.Side.{Side}
 use Rattle.rules.specs.Families.{wordAt, hasRole, sessionAt, isActive}
 use Rattle.rules.specs.Acceptance.{every, ruleOf}
 use Rattle.rules.specs.declared.families.Rule.{Rule}
-use Rattle.rules.specs.declared.families.Rule.the-variants.{Dependency, TimeContext, LocationContext}
+use Rattle.rules.specs.declared.families.Rule.the-variants.{Prerequisite, MaxUsers, MaxRoles, MaxPermissions, MaxActive, StaticSeparation, DynamicSeparation, Dependency, TimeContext, LocationContext, HistorySeparation, BindingOfDuty}
 use Rattle.rules.specs.declared.lists.Slot.{Slot}
 use Rattle.rules.specs.declared.sessions.Session.{Session}
 use Rattle.enforcement.specs.States.{positionOf, activeRole}
 use Rattle.enforcement.specs.Steps.{put}
-use Rattle.enforcement.specs.Selection.{selectedNumber}
+use Rattle.enforcement.specs.Selection.{first, selectedNumber}
 use Rattle.enforcement.specs.Gate.{keeps}
-use Rattle.enforcement.specs.Deciding.{lets, Planned, Adds, RuledOut}
+use Rattle.enforcement.specs.Deciding.{lets, Planned, Adds, RuledOut, countedPlan}
 use Rattle.enforcement.specs.declared.states.State.{State}
 use Rattle.enforcement.specs.declared.events.Plan.{Plan}
 use Rattle.enforcement.proofs.Words.{set-at, has-put}
@@ -145,6 +145,31 @@ out-bits false true false p n f = absurd (false≢true (f refl))
 abbrev Keeps : Rule → State → (ℕ → Bool) → Type 0
 Keeps rule s test = (l : List ℕ) → ((j : ℕ) → wordAt l j < 2 ^ 32) → (i r : ℕ) → r < 32 → keeps rule s l i r ≡ test r
 
+-- a rule on a role that is active nowhere lets every active pair stay
+module _ (s : State) (l : List ℕ) (i r : ℕ) (low : i < 32) (active : activeRole s i r ≡ true) where
+  another : (a : ℕ) → member (unionOf 32 (wordAt (s .active))) a ≡ false → eqb a r ≡ false
+  another a none = go (eqb a r) refl
+    where
+      go : (b : Bool) → eqb a r ≡ b → b ≡ false
+      go false e = refl
+      go true e =
+          clash (member-union-of 32 a (wordAt (s .active)) ∙ any-of 32 i (λ j. member (wordAt (s .active) j) a) low (rw (eqb-true a r e) active)) none
+
+  keeps-idle : (rule : Rule) → member (unionOf 32 (wordAt (s .active))) (first rule) ≡ false → keeps rule s l i r ≡ true
+  unfolding keeps
+  keeps-idle (Prerequisite a q) none = refl
+  keeps-idle (MaxUsers a n) none = refl
+  keeps-idle (MaxRoles n) none = refl
+  keeps-idle (MaxPermissions a n) none = refl
+  keeps-idle (MaxActive n) none = refl
+  keeps-idle (StaticSeparation a q) none = refl
+  keeps-idle (DynamicSeparation a q) none = refl
+  keeps-idle (Dependency a q) none = rw (another a none) refl
+  keeps-idle (TimeContext a term) none = rw (another a none) refl
+  keeps-idle (LocationContext a side) none = rw (another a none) refl
+  keeps-idle (HistorySeparation p q) none = refl
+  keeps-idle (BindingOfDuty p q) none = refl
+
 module _ (s : State) (plan : Plan) (outs : length (plan .out) ≡ 32) (lacks : length (plan .needs) ≡ 32) where
   -- a rule that is not selected
   pub adds-unselected : (rule : Rule) → Adds false rule s plan plan
@@ -163,6 +188,16 @@ module _ (s : State) (plan : Plan) (outs : length (plan .out) ≡ 32) (lacks : l
         outs = outs;
         lacks = lacks;
         means = λ l small i r low below active. rw (stay l small i r below) (sym (and-true (lets (plan .dead) (plan .out) (plan .needs) l i r)));
+        number = refl;
+      }
+
+  -- one on a role that is active nowhere
+  pub adds-idle : (rule : Rule) → member (unionOf 32 (wordAt (s .active))) (first rule) ≡ false → Adds true rule s plan (countedPlan plan)
+  adds-idle rule none =
+      record {
+        outs = outs;
+        lacks = lacks;
+        means = λ l small i r low below active. rw (keeps-idle s l i r low active rule none) (sym (and-true (lets (plan .dead) (plan .out) (plan .needs) l i r)));
         number = refl;
       }
 

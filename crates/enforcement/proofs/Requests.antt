@@ -77,11 +77,11 @@ ended-one (x ∷ l) (suc i) roles h =
 
 -- ---- which roles carry a permission
 
-pub carried-same : (s : State) (i p : ℕ) → isCarried (s .granted) (wordAt (s .active) i) p ≡ any 32 (λ r. activeRole s i r && carries s r p)
+pub carried-same : (granted : List ℕ) (roles p : ℕ) → isCarried granted roles p ≡ any 32 (λ r. member roles r && member (permissionsOf granted r) p)
 unfolding isCarried permissionsOf
-carried-same s i p =
-    any-same 32 (λ r. activeRole s i r && hasRole (s .granted) r p) (λ r. activeRole s i r && carries s r p)
-    (λ r l. ap (λ (n : ℕ). activeRole s i r && member n p) (sym (ap (λ (b : Bool). cond b (wordAt (s .granted) r) 0) (lt-ltb r 32 l))))
+carried-same granted roles p =
+    any-same 32 (λ r. member roles r && hasRole granted r p) (λ r. member roles r && member (permissionsOf granted r) p)
+    (λ r l. ap (λ (n : ℕ). member roles r && member n p) (sym (ap (λ (b : Bool). cond b (wordAt granted r) 0) (lt-ltb r 32 l))))
 
 -- ---- a loop that looks for one that passes
 
@@ -124,9 +124,9 @@ module _ (rules : List Rule) (s after : State) (action : Action) (judged : Judge
 pub not-told : {asked told answer : Bool} → asked ≡ told → not asked ≡ answer → not told ≡ answer
 not-told e h = sym (ap not e) ∙ h
 
-pub carries-word : (s : State) (r p : ℕ) → r < 32 → hasRole (s .granted) r p ≡ carries s r p
+pub carries-word : (granted : List ℕ) (r p : ℕ) → r < 32 → hasRole granted r p ≡ member (permissionsOf granted r) p
 unfolding permissionsOf
-carries-word s r p l = ap (λ (b : Bool). member (cond b (wordAt (s .granted) r) 0) p) (sym (lt-ltb r 32 l))
+carries-word granted r p l = ap (λ (b : Bool). member (cond b (wordAt granted r) 0) p) (sym (lt-ltb r 32 l))
 
 pub outside-none : (words : List ℕ) (i x : ℕ) → length words ≤ i → hasRole words i x ≡ false
 outside-none words i x l = ap (λ (n : ℕ). member n x) (List·getD-eq-default words 0 {n = i} l) ∙ member-empty x

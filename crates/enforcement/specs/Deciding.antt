@@ -6,8 +6,8 @@ use mathlib.Core.Path.{_≡_}
 use mathlib.Core.Bool.{Bool, true, not, cond, _&&_, _||_}
 use mathlib.Core.List.{List, []}
 use lib.Dec.{eqb, ltb}
-use lib.ListN.{length}
-use Rattle.sets.specs.Sets.{member, difference, subset, any, oneIf, count, setOf, unionOf}
+use lib.ListN.{length, set}
+use Rattle.sets.specs.Sets.{member, union, difference, subset, any, oneIf, count, setOf, unionOf}
 use Rattle.places.specs.Places.{sideHolds}
 use Rattle.places.specs.declared.Position.{Position}
 use Rattle.places.specs.declared.Side.{Side}
@@ -17,17 +17,35 @@ use Rattle.rules.specs.declared.sessions.Session.{Session}
 use Rattle.enforcement.specs.States.{isOpen, activeRole}
 use Rattle.enforcement.specs.Steps.{withActive, placed}
 use Rattle.enforcement.specs.Decisions.{Lowest, unbroken, broken, lowest, endedPairs, pairCount}
-use Rattle.enforcement.specs.Selection.{selects, selectedNumber}
+use Rattle.enforcement.specs.Selection.{family, hasFirst, hasSecond, selects, selectedNumber}
 use Rattle.enforcement.specs.Gate.{testsSelected, keeps, stays, sifted, settled, remaining, refusedNext, requestNext}
 use Rattle.enforcement.specs.declared.states.State.{State}
 use Rattle.enforcement.specs.declared.steps.Action.{Action}
+use Rattle.enforcement.specs.declared.kinds.Effect.{Effect}
+use Rattle.enforcement.specs.declared.steps.Answer.{Answer}
 use Rattle.enforcement.specs.declared.steps.Answer.the-variants.{Granted, Refused}
 use Rattle.enforcement.specs.declared.steps.Next.{Next}
+use Rattle.enforcement.specs.declared.selection.Choice.{Choice}
 use Rattle.enforcement.specs.declared.judging.Found.{Found}
 use Rattle.enforcement.specs.declared.judging.Found.the-variants as found
 use Rattle.enforcement.specs.declared.judging.Judged.{Judged}
 use Rattle.enforcement.specs.declared.events.Plan.{Plan}
 use Rattle.enforcement.specs.declared.events.Left.{Left}
+
+-- ---- the selection
+
+-- the rules of some families, and of others those that name the number first, or second
+abbrev pub choiceOf : ℕ → ℕ → ℕ → ℕ → Choice
+choiceOf whole byFirst bySecond named =
+    record { families = union (union whole byFirst) bySecond; whole = whole; «by_first» = byFirst; «by_second» = bySecond; named = named }
+
+-- what a choice says of a rule of family f that names its number first, or second
+abbrev pub chosenAt : Choice → ℕ → Bool → Bool → Bool
+chosenAt choice f isFirst isSecond =
+    member (choice .families) f && (member (choice .whole) f || ((member (choice .«by_first») f && isFirst) || (member (choice .«by_second») f && isSecond)))
+
+unfoldable pub chosen : Choice → Rule → Bool
+chosen choice rule = chosenAt choice (family rule) (hasFirst (choice .named) rule) (hasSecond (choice .named) rule)
 
 -- ---- a request
 
@@ -96,12 +114,34 @@ pub record Adds (isSelected : Bool) (rule : Rule) (s : State) (before after : Pl
       lets (after .dead) (after .out) (after .needs) l i r ≡ (lets (before .dead) (before .out) (before .needs) l i r && (not isSelected || keeps rule s l i r))
   pub number : after .selected ≡ before .selected + oneIf isSelected
 
+-- a plan with one selected rule more that says nothing of any active pair
+abbrev pub countedPlan : Plan → Plan
+countedPlan plan = record { dead = plan .dead; out = plan .out; needs = plan .needs; selected = plan .selected + 1 }
+
 -- role r is ruled out in each of the first n sessions that has it active and is not positioned so
 pub record RuledOut (n : ℕ) (out : List ℕ) (sessions : List Session) (active : List ℕ) (r : ℕ) (side : Side) (more : List ℕ) : Type 0 where
   pub sameLength : length more ≡ 32
   pub means : (i q : ℕ) → i < 32 → q < 32 → hasRole more i q ≡ (hasRole out i q || (ltb i n && (eqb r q && (hasRole active i r && not (sideHolds side (sessionAt sessions i .position))))))
 
 -- ---- a step
+
+-- a state by its fields
+abbrev pub stateFrom : ℕ → List ℕ → List ℕ → List Session → List ℕ → List ℕ → State
+stateFrom time assigned granted sessions active history =
+    record { time = time; assigned = assigned; granted = granted; sessions = sessions; active = active; history = history }
+
+-- a state with an answer
+abbrev pub answered : State → Answer → Next
+answered s answer = record { state = s; answer = answer }
+
+-- sessions and time as they were
+unfoldable pub keptEffect : List Session → ℕ → Answer → Effect
+keptEffect sessions time answer = record { session = 0; place = sessionAt sessions 0; time = time; answer = answer }
+
+-- an effect with the fields that are lent as the step leaves them, and the sessions as they were
+abbrev pub effectNext : Effect → List ℕ → List ℕ → List Session → List ℕ → List ℕ → Next
+effectNext effect assigned granted sessions active history =
+    answered (stateFrom (effect .time) assigned granted (set sessions (effect .session) (effect .place)) active history) (effect .answer)
 
 -- a request that has passed its checks, by its target
 unfoldable pub requestOf : List Rule → State → Action → State → Next

@@ -1,15 +1,22 @@
 // What an event ends: one pass over the rules makes a plan, then rounds on sets of roles until nothing changes.
 ghost use mathlib.Core.Path.{_≡_};
-ghost use mathlib.Core.Bool.{true};
+ghost use mathlib.Core.Bool.{true, not, _&&_};
 ghost use Prim.Native.Nat.{_<_, _≤_};
 ghost use lib.ListN.{length};
+ghost use Rattle.sets.specs.Sets.{member, unionOf};
+ghost use Rattle.places.specs.Places.{sideHolds};
 ghost use Rattle.rules.specs.Acceptance.{rulesOf};
+ghost use Rattle.rules.specs.Families.{wordAt};
 ghost use Rattle.enforcement.specs.Decisions.{endedPairs, pairCount};
 ghost use Rattle.enforcement.specs.Selection.{selects};
 ghost use Rattle.enforcement.specs.Gate.{sameLists};
-ghost use Rattle.enforcement.specs.Deciding.{context, leftOf, Fewer, Planned, Adds, RuledOut, stayingRoles, planRound, planSettled};
-use crate::selection::selects;
+ghost use Rattle.enforcement.specs.Deciding.{chosen, context, leftOf, Fewer, Planned, Adds, RuledOut, countedPlan, stayingRoles, planRound, planSettled};
+use crate::selection::Choice;
+use crate::selection::choice_of;
+use crate::selection::first_of;
+use crate::selection::is_chosen;
 use crate::steps::Action;
+use places::Position;
 use places::Side;
 use rules::Rule;
 use rules::RuleList;
@@ -85,6 +92,8 @@ fn plan_of(
     ensures { λ r. ⌜ Planned (selects action) (rulesOf list) (context sessions (now (active .entry)) time) r ⌝ }
 {
     let length = list.length;
+    let choice = choice_of(action);
+    let live = active_somewhere(active);
     let mut plan = Plan {
         dead: 0,
         out: [0; 32],
@@ -95,27 +104,39 @@ fn plan_of(
     while i < length {
         let slot = list.slots[i];
         let rule = slot.rule;
-        plan = consider(plan, rule, action, sessions, active, time);
+        plan = consider(plan, rule, choice, sessions, active, live, time);
         i += 1;
     }
     plan
 }
 
-// One rule more, where it is selected.
+// One rule more, where it is selected. A rule on a role that is active nowhere is only counted: it lets every active pair stay.
 fn consider(
     plan: Plan,
     rule: Rule,
-    action: Action,
+    choice: Choice,
     sessions: [Session; 32],
     active: &[u32; 32],
+    live: u32,
     time: u64,
 ) -> Plan
-    requires { ⌜ (length (plan .out) ≡ 32) × (length (plan .needs) ≡ 32) × (plan .selected < 128) ⌝ }
-    ensures { λ r. ⌜ Adds (selects action rule) rule (context sessions (now (active .entry)) time) plan r ⌝ }
+    requires { ⌜ (length (plan .out) ≡ 32) × (length (plan .needs) ≡ 32) × (plan .selected < 128) × (live ≡ unionOf 32 (wordAt (now active))) ⌝ }
+    ensures { λ r. ⌜ Adds (chosen choice rule) rule (context sessions (now (active .entry)) time) plan r ⌝ }
 {
-    if selects(action, rule) {
+    if !is_chosen(choice, rule) {
+        return plan;
+    }
+    if word32::member(live, first_of(rule)) {
         return with_rule(plan, rule, sessions, active, time);
     }
+    counted(plan)
+}
+
+fn counted(mut plan: Plan) -> Plan
+    requires { ⌜ plan .selected < 128 ⌝ }
+    ensures { λ r. ⌜ r ≡ countedPlan plan ⌝ }
+{
+    plan.selected = plan.selected + 1;
     plan
 }
 
@@ -200,7 +221,7 @@ fn rule_out(
     for i in 0..32 {
         let session = sessions[i];
         let position = session.position;
-        if word32::member(active[i], role) & !side.holds(position) {
+        if is_misplaced(active[i], role, side, position) {
             let roles = more[i];
             more[i] = word32::with(roles, role);
         }
@@ -208,10 +229,21 @@ fn rule_out(
     more
 }
 
+// A session with these active roles has the role active and is not positioned so. Few sessions have it: the side is looked at for
+// those alone.
+fn is_misplaced(roles: u32, role: usize, side: Side, position: Position) -> bool
+    ensures { λ r. ⌜ r ≡ (member roles role && not (sideHolds side position)) ⌝ }
+{
+    if !word32::member(roles, role) {
+        return false;
+    }
+    !side.holds(position)
+}
+
 // ---- the rounds
 
 // The sets by value: then each is known to fit its word.
-fn copied(active: &[u32; 32]) -> [u32; 32]
+pub(crate) fn copied(active: &[u32; 32]) -> [u32; 32]
     ensures { λ r. ⌜ r ≡ now (active .entry) ⌝ }
 {
     *active

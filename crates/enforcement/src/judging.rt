@@ -4,8 +4,10 @@ ghost use Prim.Native.Nat.{_+_, _<_, _≤_};
 ghost use Rattle.rules.specs.Acceptance.{rulesOf};
 ghost use Rattle.rules.specs.Families.{view, holds};
 ghost use Rattle.enforcement.specs.Selection.{selects};
-ghost use Rattle.enforcement.specs.Deciding.{judgedOf, visited};
-use crate::selection::selects;
+ghost use Rattle.enforcement.specs.Deciding.{chosen, judgedOf, visited};
+use crate::selection::Choice;
+use crate::selection::choice_of;
+use crate::selection::is_chosen;
 use crate::steps::Action;
 use rules::Rule;
 use rules::RuleList;
@@ -38,6 +40,7 @@ pub(crate) fn judge<'a>(
     ensures { λ r. ⌜ r ≡ judgedOf (selects action) (view (now (assigned .entry)) (now (assigned .entry)) (now (granted .entry)) sessions (now (active .entry)) (now (history .entry)) time) (rulesOf list) ⌝ }
 {
     let length = list.length;
+    let choice = choice_of(action);
     let mut judged = Judged {
         broken: Found::Nothing,
         selected: 0,
@@ -50,7 +53,7 @@ pub(crate) fn judge<'a>(
             judged,
             rule,
             i + 1,
-            action,
+            choice,
             assigned,
             granted,
             sessions,
@@ -68,7 +71,7 @@ fn visit<'a>(
     judged: Judged,
     rule: Rule,
     number: usize,
-    action: Action,
+    choice: Choice,
     assigned: &'a [u32; 64],
     granted: &'a [u32; 32],
     sessions: [Session; 32],
@@ -77,9 +80,9 @@ fn visit<'a>(
     time: u64,
 ) -> Judged
     requires { ⌜ judged .selected < 128 ⌝ }
-    ensures { λ r. ⌜ r ≡ visited (selects action rule) (holds rule (view (now (assigned .entry)) (now (assigned .entry)) (now (granted .entry)) sessions (now (active .entry)) (now (history .entry)) time)) judged number ⌝ }
+    ensures { λ r. ⌜ r ≡ visited (chosen choice rule) (holds rule (view (now (assigned .entry)) (now (assigned .entry)) (now (granted .entry)) sessions (now (active .entry)) (now (history .entry)) time)) judged number ⌝ }
 {
-    if !selects(action, rule) {
+    if !is_chosen(choice, rule) {
         return judged;
     }
     let selected = judged.selected + 1;

@@ -2,6 +2,7 @@
 mod acceptance;
 mod events;
 mod judging;
+mod kinds;
 mod runs;
 pub mod selection;
 pub mod states;

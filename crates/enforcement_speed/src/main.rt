@@ -1,12 +1,14 @@
 // Lists of rules and steps made by a small generator and run in batches from a fresh state, for bench/compare.sh. With no input it
-// prints the checksum of all answers to a short list of each kind. With three bytes of input, list, batches and `r` or `g`, it runs
-// one list, or only makes it, so that the time of making can be taken off. bench/gates.rs makes the same lists.
+// prints the checksum of all answers to a short list of each kind, and what a list gives that is lent one entry too few. With three
+// bytes of input, list, batches and `r` or `g`, it runs one list, or only makes it, so that the time of making can be taken off.
+// bench/gates.rs makes the same lists.
 ghost use mathlib.Core.Path.{_≡_};
 ghost use Prim.Native.Nat.{_≤_};
 ghost use lib.ListN.{length, take};
 ghost use Rattle.enforcement.specs.Runs.{ranOf, writtenOf};
 use calendar::Term;
 use enforcement::Ran;
+use enforcement::Session;
 use enforcement::State;
 use enforcement::Step;
 use places::Shape;
@@ -41,11 +43,32 @@ fn main() {
         line(sum_of(2, 16, true));
         line(sum_of(3, 16, true));
         line(sum_of(4, 16, true));
+        show_short_room();
         return;
     }
     let which = wide(input[0]) % 16;
     let batches = wide(input[1]) % 32 * 128;
     line(sum_of(which, batches, input[2] == b'r'));
+}
+
+// One entry too few for the steps: 18, and each entry and the state stay. It prints the number, the checksum of the entries handed in and
+// of those handed back, and the same of the state.
+fn show_short_room() {
+    let list = rules_of(3);
+    let batch = batch_of(3, 0, 102);
+    let steps = batch.steps;
+    let mut answers = [0u64; 256];
+    let ran = run_batch(steps, 256, list, State::fresh(), &mut answers);
+    let before = ran.state;
+    let mut few = [7u64; 255];
+    let entries = with_entries(0, &few);
+    let refused = run_batch(steps, 256, list, before, &mut few);
+    let after = refused.state;
+    line(refused.number);
+    line(entries);
+    line(with_entries(0, &few));
+    line(with_state(before));
+    line(with_state(after));
 }
 
 fn line(n: u64) {
@@ -114,6 +137,57 @@ fn with_answers(sum: u64, answers: &[u64; 256]) -> u64 {
         total = added(total, answers[i]);
     }
     total
+}
+
+fn with_entries(sum: u64, entries: &[u64; 255]) -> u64 {
+    let mut total = sum;
+    for i in 0..255 {
+        total = added(total, entries[i]);
+    }
+    total
+}
+
+// The checksum of a state but for the sessions' positions.
+fn with_state(state: State) -> u64 {
+    let sessions = state.sessions;
+    let held = with_roles(state.time, &state.assigned);
+    let open = with_sessions(held, sessions, &state.granted, &state.active);
+    with_history(open, &state.history)
+}
+
+fn with_roles(sum: u64, assigned: &[u32; 64]) -> u64 {
+    let mut total = sum;
+    for i in 0..64 {
+        total = added(total, wide_word(assigned[i]));
+    }
+    total
+}
+
+fn with_sessions<'a>(
+    sum: u64,
+    sessions: [Session; 32],
+    granted: &'a [u32; 32],
+    active: &'a [u32; 32],
+) -> u64 {
+    let mut total = sum;
+    for i in 0..32 {
+        let session = sessions[i];
+        let user = added(total, wide_word(session.user));
+        total = added(added(user, wide_word(granted[i])), wide_word(active[i]));
+    }
+    total
+}
+
+fn with_history(sum: u64, history: &[u64; 1024]) -> u64 {
+    let mut total = sum;
+    for i in 0..1024 {
+        total = added(total, history[i]);
+    }
+    total
+}
+
+fn wide_word(word: u32) -> u64 {
+    word as u64
 }
 
 // Every step is looked at, so that none is left unmade.

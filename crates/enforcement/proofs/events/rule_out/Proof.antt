@@ -25,17 +25,14 @@ mul-session c = search needs
 array-copy-out-session : tie.Need-array-copy-out-session Inv-loop μ-loop
 array-copy-out-session c = search needs
 
-mul-member : tie.Need-mul-member Inv-loop μ-loop
-mul-member c = search needs
+mul-is-misplaced : tie.Need-mul-is-misplaced Inv-loop μ-loop
+mul-is-misplaced c = search needs
 
-element-copy-out-member : tie.Need-element-copy-out-member Inv-loop μ-loop
-element-copy-out-member c = search needs
+element-copy-out-is-misplaced : tie.Need-element-copy-out-is-misplaced Inv-loop μ-loop
+element-copy-out-is-misplaced c = search needs
 
-member-requires : tie.Need-member-requires Inv-loop μ-loop
-member-requires c κs = search needs
-
-holds-requires : tie.Need-holds-requires Inv-loop μ-loop
-holds-requires c κs = search needs
+is-misplaced-requires : tie.Need-is-misplaced-requires Inv-loop μ-loop
+is-misplaced-requires c κs = search needs
 
 mul-roles : tie.Need-mul-roles Inv-loop μ-loop
 mul-roles c = search needs
@@ -60,13 +57,12 @@ loop-less c = search needs
 
 loop-again : tie.Need-loop-again Inv-loop μ-loop
 loop-again c =
-    let now = c .before .before .before .before .before .before .loop in
-    let active = c .before .before .member in
-    let placed = c .before .holds in (
+    let now = c .before .before .before .before .before .loop in
+    let misplaced = c .before .«is-misplaced» in (
       search needs,
       ⊎-elim
-          (λ w. rw (w .2, w .1 .ensures) (ruled-in _ _ _ _ _ (now .i) (now .more) (search needs) (now .inv .1) (rw (← active .ensures, ← placed .ensures) (w .0 .taken))))
-          (λ w. rw (w .1) (ruled-out _ _ _ _ _ (now .i) (now .more) (search needs) (now .inv .1) (rw (← active .ensures, ← placed .ensures) (w .0 .left))))
+          (λ w. rw (w .2, w .1 .ensures) (ruled-in _ _ _ _ _ (now .i) (now .more) (search needs) (now .inv .1) (rw (← misplaced .ensures) (w .0 .taken))))
+          (λ w. rw (w .1) (ruled-out _ _ _ _ _ (now .i) (now .more) (search needs) (now .inv .1) (rw (← misplaced .ensures) (w .0 .left))))
           (c .if1 .came),
     )
 
@@ -82,10 +78,9 @@ rule-out-spec =
     loop-holds
     mul-session
     array-copy-out-session
-    mul-member
-    element-copy-out-member
-    member-requires
-    holds-requires
+    mul-is-misplaced
+    element-copy-out-is-misplaced
+    is-misplaced-requires
     mul-roles
     array-read-roles
     with-requires

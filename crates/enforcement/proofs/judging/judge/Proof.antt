@@ -7,21 +7,25 @@ use native.Mathlib.Omega.{arith}
 use lib.ListN.{length-map}
 use Rattle.rules.specs.Families.{view}
 use Rattle.enforcement.specs.Decisions.{lowest}
-use Rattle.enforcement.specs.Selection.{selects, selectedNumber}
-use Rattle.enforcement.specs.Deciding.{judgedOf}
+use Rattle.enforcement.specs.Selection.{selectedNumber}
+use Rattle.enforcement.specs.Deciding.{chosen, judgedOf}
+use Rattle.enforcement.proofs.Choosing.{judged-told}
 use Rattle.enforcement.proofs.Judgement.{firstRules, judged-more, judged-small}
 use Rattle.enforcement.proofs.judging.judge.Statement.{statement}
 use Rattle.enforcement.proofs.judging.judge.Tie as tie
 
 abbrev Inv-loop : tie.InvT-loop
-Inv-loop action assigned granted sessions active history time list length judged₀ i₀ judged i = (i ≤ length) × (judged ≡ judgedOf (selects action) (view assigned assigned granted sessions active history time) (firstRules i (list .slots)))
+Inv-loop assigned granted sessions active history time list length choice judged₀ i₀ judged i = (i ≤ length) × (judged ≡ judgedOf (chosen choice) (view assigned assigned granted sessions active history time) (firstRules i (list .slots)))
 
 abbrev μ-loop : tie.MeasureT-loop
-μ-loop action assigned granted sessions active history time list length judged₀ i₀ judged i = length - i
+μ-loop assigned granted sessions active history time list length choice judged₀ i₀ judged i = length - i
 
 -- The type fixes the number of slots, so each index below the length is one of a slot.
 slots-length : (c : tie.Start Inv-loop μ-loop) → lib.ListN.length (c .args .t1 .slots) ≡ 128
 slots-length c = sym (length-map (c .args .t1 .slots) _) ∙ c .good .0 .1 .1 .0 .1 .0 .1
+
+choice-of-requires : tie.Need-choice-of-requires Inv-loop μ-loop
+choice-of-requires c κs = search needs
 
 loop-holds : tie.Need-loop-holds Inv-loop μ-loop
 unfolding judgedOf lowest selectedNumber
@@ -38,7 +42,7 @@ add-visit c = search needs
 
 visit-requires : tie.Need-visit-requires Inv-loop μ-loop
 visit-requires c κs =
-    let within : c .before .before .loop .i ≤ lib.ListN.length (c .before .before .before .args .t1 .slots) = omega (arith, slots-length (c .before .before .before)) in
+    let within : c .before .before .loop .i ≤ lib.ListN.length (c .before .before .before .before .args .t1 .slots) = omega (arith, slots-length (c .before .before .before .before)) in
     let small = judged-small _ _ _ _ (c .before .before .loop .i) within (c .before .before .loop .inv .1) in
     omega (arith, small)
 
@@ -51,11 +55,11 @@ loop-less c = search needs
 loop-again : tie.Need-loop-again Inv-loop μ-loop
 loop-again c = (
   search needs,
-  c .visit .ensures ∙ rw (c .before .before .before .loop .inv .1) (judged-more _ _ (c .before .before .before .before .args .t1 .slots) (c .before .before .before .loop .i) _ (omega (arith, slots-length (c .before .before .before .before)))),
+  c .visit .ensures ∙ rw (c .before .before .before .loop .inv .1) (judged-more _ _ (c .before .before .before .before .before .args .t1 .slots) (c .before .before .before .loop .i) _ (omega (arith, slots-length (c .before .before .before .before .before)))),
 )
 
 returns : tie.Need-returns Inv-loop μ-loop
-returns c = let done : c .before .loop .i ≡ c .before .before .args .t1 .length = omega arith in rw done at (c .before .loop .inv .1)
+returns c = let done : c .before .loop .i ≡ c .before .before .before .args .t1 .length = omega arith in judged-told _ _ (c .before .before .choice-of .ensures) _ _ _ (rw done at (c .before .loop .inv .1))
 
 pub judge-spec : {M : Type 1} → statement M
 judge-spec =
@@ -63,6 +67,7 @@ judge-spec =
     (tie.spec
     Inv-loop
     μ-loop
+    choice-of-requires
     loop-holds
     mul-slot
     element-copy-out-slot

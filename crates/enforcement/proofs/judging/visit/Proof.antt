@@ -8,11 +8,11 @@ use borrow.Author.Needs.{needs}
 use Rattle.enforcement.proofs.judging.visit.Statement.{statement}
 use Rattle.enforcement.proofs.judging.visit.Tie as tie
 
-selects-requires : tie.Need-selects-requires
-selects-requires c κs = search needs
+is-chosen-requires : tie.Need-is-chosen-requires
+is-chosen-requires c κs = search needs
 
 returns : tie.Need-returns
-returns c = visited-unselected _ _ _ _ (sym (c .before .selects .ensures) ∙ not-true _ (c .if1 .taken))
+returns c = visited-unselected _ _ _ _ (sym (c .before .is-chosen .ensures) ∙ not-true _ (c .if1 .taken))
 
 add-selected : tie.Need-add-selected
 add-selected c = search needs
@@ -24,7 +24,7 @@ enum-told-2 : tie.Need-enum-told-2
 enum-told-2 c = search needs
 
 returns-2 : tie.Need-returns-2
-returns-2 c = visited-after _ _ _ _ _ (sym (c .before .before .before .before .selects .ensures) ∙ not-false _ (c .before .before .before .if1 .left)) (c .enum-told2 .given .1)
+returns-2 c = visited-after _ _ _ _ _ (sym (c .before .before .before .before .is-chosen .ensures) ∙ not-false _ (c .before .before .before .if1 .left)) (c .enum-told2 .given .1)
 
 test-requires : tie.Need-test-requires
 test-requires c κs = search needs
@@ -36,16 +36,16 @@ enum-told-4 : tie.Need-enum-told-4
 enum-told-4 c = search needs
 
 returns-3 : tie.Need-returns-3
-returns-3 c = visited-kept _ _ _ _ (sym (c .before .before .before .before .before .before .before .selects .ensures) ∙ not-false _ (c .before .before .before .before .before .before .if1 .left)) (c .before .before .before .enum-told .given .1) (ap isKept (sym (c .before .before .test .ensures) ∙ c .enum-told3 .given .1))
+returns-3 c = visited-kept _ _ _ _ (sym (c .before .before .before .before .before .before .before .is-chosen .ensures) ∙ not-false _ (c .before .before .before .before .before .before .if1 .left)) (c .before .before .before .enum-told .given .1) (ap isKept (sym (c .before .before .test .ensures) ∙ c .enum-told3 .given .1))
 
 returns-4 : tie.Need-returns-4
-returns-4 c = visited-broken _ _ _ _ (sym (c .before .before .before .before .before .before .before .selects .ensures) ∙ not-false _ (c .before .before .before .before .before .before .if1 .left)) (c .before .before .before .enum-told .given .1) (ap isKept (sym (c .before .before .test .ensures) ∙ c .enum-told4 .given .1))
+returns-4 c = visited-broken _ _ _ _ (sym (c .before .before .before .before .before .before .before .is-chosen .ensures) ∙ not-false _ (c .before .before .before .before .before .before .if1 .left)) (c .before .before .before .enum-told .given .1) (ap isKept (sym (c .before .before .test .ensures) ∙ c .enum-told4 .given .1))
 
 pub visit-spec : {M : Type 1} → statement M
 visit-spec =
     tie.close
     (tie.spec
-    selects-requires
+    is-chosen-requires
     returns
     add-selected
     enum-told

@@ -1,26 +1,20 @@
 -- `enforcement::states::State::clock` meets its contract.
 -- Assumes nothing.
-use mathlib.Core.Path.{refl, _∙_}
-use borrow.Author.Tests.{lt-ltb, le-ltb}
-use Rattle.enforcement.specs.Steps.{check, target}
-use Rattle.enforcement.proofs.Requests.{decide-refused, decide-event}
 use borrow.Author.Needs.{needs}
 use Rattle.enforcement.proofs.states.State.clock.Statement.{statement}
 use Rattle.enforcement.proofs.states.State.clock.Tie as tie
 
-refused-requires : tie.Need-refused-requires
-refused-requires c κs = search needs
+clock-requires : tie.Need-clock-requires
+clock-requires c κs = search needs
+
+mul-place : tie.Need-mul-place
+mul-place c = search needs
+
+element-set-from-place : tie.Need-element-set-from-place
+element-set-from-place c = search needs
 
 returns : tie.Need-returns
-unfolding check
-returns c = c .refused .ensures ∙ decide-refused _ _ _ 21 (rw (lt-ltb (c .before .before .before .args .time) (c .before .before .before .args .self .time) (c .before .if1 .taken)))
-
-after-event-requires : tie.Need-after-event-requires
-after-event-requires c κs = search needs
-
-returns-2 : tie.Need-returns-2
-unfolding check target
-returns-2 c = c .after-event .ensures ∙ decide-event _ _ _ (rw (le-ltb (c .before .before .before .before .args .time) (c .before .before .before .before .args .self .time) (c .before .before .if1 .left))) refl
+returns c = c .before .clock .ensures .1 _ _ _
 
 pub clock-spec : {M : Type 1} → statement M
-clock-spec = tie.close (tie.spec refused-requires returns after-event-requires returns-2)
+clock-spec = tie.close (tie.spec clock-requires mul-place element-set-from-place returns)

@@ -1,0 +1,65 @@
+-- `enforcement::kinds::activate` meets its contract.
+-- Assumes nothing.
+use mathlib.Core.Path.{refl, sym, _∙_}
+use Rattle.enforcement.specs.Steps.{check, target}
+use Rattle.enforcement.proofs.Requests.{decide-refused, decide-request, not-told}
+use borrow.Author.Needs.{needs}
+use Rattle.enforcement.proofs.kinds.activate.Statement.{statement}
+use Rattle.enforcement.proofs.kinds.activate.Tie as tie
+
+mul-place : tie.Need-mul-place
+mul-place c = search needs
+
+array-copy-out-place : tie.Need-array-copy-out-place
+array-copy-out-place c = search needs
+
+returns : tie.Need-returns
+unfolding check
+returns c = decide-refused _ _ _ 23 (rw (c .if1 .taken))
+
+mul-roles : tie.Need-mul-roles
+mul-roles c = search needs
+
+element-copy-out-roles : tie.Need-element-copy-out-roles
+element-copy-out-roles c = search needs
+
+member-requires : tie.Need-member-requires
+member-requires c κs = search needs
+
+returns-2 : tie.Need-returns-2
+unfolding check
+returns-2 c = decide-refused _ _ _ 24 (rw (c .before .before .before .if1 .left, sym (c .before .member .ensures) ∙ c .if2 .taken))
+
+has-role-requires : tie.Need-has-role-requires
+has-role-requires c κs = search needs
+
+returns-3 : tie.Need-returns-3
+unfolding check
+returns-3 c = decide-refused _ _ _ 26 (rw (c .before .before .before .before .before .if1 .left, sym (c .before .before .before .member .ensures) ∙ c .before .before .if2 .left, not-told (c .before .has-role .ensures) (c .if3 .taken)))
+
+with-requires : tie.Need-with-requires
+with-requires c κs = search needs
+
+with-active-requires : tie.Need-with-active-requires
+with-active-requires c κs = search needs
+
+returns-4 : tie.Need-returns-4
+unfolding check target
+returns-4 c = c .with-active .ensures ∙ rw (c .before .before .with .ensures) (decide-request _ _ _ (rw (c .before .before .before .before .before .before .before .before .if1 .left, sym (c .before .before .before .before .before .before .member .ensures) ∙ c .before .before .before .before .before .if2 .left, not-told (c .before .before .before .before .has-role .ensures) (c .before .before .before .if3 .left))) refl)
+
+pub activate-spec : {M : Type 1} → statement M
+activate-spec =
+    tie.close
+    (tie.spec
+    mul-place
+    array-copy-out-place
+    returns
+    mul-roles
+    element-copy-out-roles
+    member-requires
+    returns-2
+    has-role-requires
+    returns-3
+    with-requires
+    with-active-requires
+    returns-4)
