@@ -1,6 +1,7 @@
 // The program's whole work on slices: rules, then `(steps)`, then steps.
 ghost use mathlib.Core.Path.{_≡_};
 ghost use Prim.Native.Nat.{_≤_};
+ghost use lib.Dec.{leb};
 ghost use lib.ListN.{length};
 ghost use Rattle.forms.specs.Writing.{Wrote, writtenOf, lentAfter};
 ghost use Rattle.texts.specs.Response.{startsSteps, stepsOutcome, numberOf, outcomeText, responseOf};
@@ -14,17 +15,31 @@ const STEPS: [u8; 8] = *b"(steps)\n";
 // "The program `gate` reads at most 65,536 bytes".
 pub const MOST_BYTES: usize = 65_536;
 
+// No response is longer.
+pub const ROOM: usize = 131_072;
+
 // The answers to the input's steps, a line each, or one line on what is bad in it; the text's length, or 18 where the lent space is
 // shorter. Then every byte stays, else those past the text.
 pub fn respond(input: &[u8], output: &mut [u8]) -> Written
     ensures { λ r. ⌜ (r ≡ writtenOf (responseOf (now (input .entry))) (now (output .entry))) × (now (output .exit) ≡ lentAfter (responseOf (now (input .entry))) (now (output .entry))) ⌝ }
 {
-    let need = put_response(input, &mut output[..0], 0);
-    if output.len() < need {
+    if !fits(input, output.len()) {
         return Written::Refused(18);
     }
     let length = put_response(input, output, 0);
     Written::Length(length)
+}
+
+// The response has room. It is measured, by writing it where it does not fit, only where it could be too long.
+fn fits(input: &[u8], room: usize) -> bool
+    ensures { λ r. ⌜ r ≡ leb (length (responseOf (now (input .entry)))) room ⌝ }
+{
+    if ROOM <= room {
+        return true;
+    }
+    let mut scratch = [0u8; 1];
+    let need = put_response(input, &mut scratch, 0);
+    need <= room
 }
 
 // The response from place `at` on; where it ends. Bytes past the list's end are left out.
