@@ -114,7 +114,7 @@ def timed(command, path, head):
     return answer, usage.ru_utime + usage.ru_stime
 
 def ours(kind, path, count):
-    return timed(['target/bin/text_speed'], path, (kind[0:1] if kind == 'saved' else 'r').encode() + bytes([64 + count]))
+    return timed(['target/bin/text_speed'], path, (b's' if kind == 'saved' else b'r') + bytes([64 + count]))
 
 def rust(kind, path, count):
     return timed(['target/bench/texts', kind, str(count)], path, b'')
