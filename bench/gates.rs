@@ -5,33 +5,44 @@
 //     gates LIST BATCHES plain|selecting|generate
 //
 // prints the checksum of all answers and the nanoseconds spent in the gate. crates/enforcement_speed makes the same lists of rules
-// and steps by the same generator.
+// and steps by the same generator. texts.rs runs steps that it read on the selecting gate.
 use std::env;
 use std::process;
 use std::time::Instant;
 
 const BATCH: usize = 256;
-const LAST_TIME: u64 = 3_155_759_999;
+pub(crate) const LAST_TIME: u64 = 3_155_759_999;
 
 // ---- the rules
 
 #[derive(Clone, Copy)]
-enum Shape {
+pub(crate) enum Shape {
     Circle { x: i64, y: i64, radius: i64 },
     Box { left: i64, bottom: i64, right: i64, top: i64 },
 }
 
-// The only term that the lists use: week a b h k.
+// week a b h k
 #[derive(Clone, Copy)]
-struct Week {
-    first: u64,
-    last: u64,
-    start: u64,
-    end: u64,
+pub(crate) struct Week {
+    pub(crate) first: u64,
+    pub(crate) last: u64,
+    pub(crate) start: u64,
+    pub(crate) end: u64,
+}
+
+// The lists made here use weeks only; a date is held as its day.
+#[allow(dead_code)]
+#[derive(Clone, Copy)]
+pub(crate) enum Term {
+    Dates(u64, u64),
+    Week(Week),
+    Months(u64, u64),
+    Nth(u64, u64),
+    Every(u64, u64),
 }
 
 #[derive(Clone, Copy)]
-enum Rule {
+pub(crate) enum Rule {
     Before(usize, usize),
     MaxUsers(usize, u32),
     MaxRoles(u32),
@@ -40,31 +51,64 @@ enum Rule {
     Apart(usize, usize),
     ApartActive(usize, usize),
     Needs(usize, usize),
-    During(usize, Week),
+    During(usize, Term),
     At(usize, bool, Shape),
     TwoHands(usize, usize),
     SameHand(usize, usize),
 }
 
 #[derive(Clone, Copy, Default)]
-struct Step {
-    kind: u64,
-    first: u64,
-    second: u64,
-    third: u64,
-    x: i64,
-    y: i64,
+pub(crate) struct Step {
+    pub(crate) kind: u64,
+    pub(crate) first: u64,
+    pub(crate) second: u64,
+    pub(crate) third: u64,
+    pub(crate) x: i64,
+    pub(crate) y: i64,
 }
 
-// 'Calendar': day = t / 86,400, weekday = (day + 5) mod 7 + 1; "The weekday is that of the moment".
-fn week_holds(week: &Week, time: u64) -> bool {
-    let weekday = (time / 86_400 + 5) % 7 + 1;
-    let minute = time % 86_400 / 60;
-    let on_day = if week.first <= week.last {
-        week.first <= weekday && weekday <= week.last
+// 'Calendar': "Days before each month in a common year", and in the whole year.
+pub(crate) const DAYS_BEFORE: [u64; 13] = [0, 31, 59, 90, 120, 151, 181, 212, 243, 273, 304, 334, 365];
+
+// day = t / 86,400, weekday = (day + 5) mod 7 + 1
+fn weekday(day: u64) -> u64 {
+    (day + 5) % 7 + 1
+}
+
+// The month and the day of the month; 2000 is a leap year, and so is every fourth after it.
+fn month_and_day(day: u64) -> (u64, u64) {
+    let (cycle, within) = (day / 1461, day % 1461);
+    let year = cycle * 4 + if within < 366 { 0 } else { (within - 1) / 365 };
+    let of_year = day - (year * 365 + (year + 3) / 4);
+    let before = |month: usize| DAYS_BEFORE[month] + (year % 4 == 0 && month >= 2) as u64;
+    let month = (0..12).rev().find(|&month| before(month) <= of_year).unwrap_or(0);
+    (month as u64 + 1, of_year - before(month) + 1)
+}
+
+// From first to last, going past the end where first > last.
+fn going_round(first: u64, last: u64, value: u64) -> bool {
+    if first <= last {
+        first <= value && value <= last
     } else {
-        weekday >= week.first || weekday <= week.last
-    };
+        value >= first || value <= last
+    }
+}
+
+fn term_holds(term: &Term, time: u64) -> bool {
+    let day = time / 86_400;
+    match *term {
+        Term::Dates(first, last) => first <= day && day <= last,
+        Term::Week(ref week) => week_holds(week, time),
+        Term::Months(first, last) => going_round(first, last, month_and_day(day).0),
+        Term::Nth(number, on) => weekday(day) == on && (month_and_day(day).1 - 1) / 7 + 1 == number,
+        Term::Every(number, first) => day >= first && (day - first) % number == 0,
+    }
+}
+
+// "The weekday is that of the moment".
+fn week_holds(week: &Week, time: u64) -> bool {
+    let minute = time % 86_400 / 60;
+    let on_day = going_round(week.first, week.last, weekday(time / 86_400));
     let start = week.start / 100 * 60 + week.start % 100;
     let end = week.end / 100 * 60 + week.end % 100;
     let on_minute = if week.start > week.end {
@@ -90,27 +134,27 @@ fn side_holds(inside: bool, shape: &Shape, position: Option<(i64, i64)>) -> bool
 // ---- the state
 
 #[derive(Clone, Copy, Default)]
-struct Session {
+pub(crate) struct Session {
     // None where the session is closed.
-    user: Option<usize>,
-    position: Option<(i64, i64)>,
-    active: u32,
+    pub(crate) user: Option<usize>,
+    pub(crate) position: Option<(i64, i64)>,
+    pub(crate) active: u32,
 }
 
-struct State {
-    time: u64,
-    assigned: [u32; 64],
-    granted: [u32; 32],
-    sessions: [Session; 32],
-    did: [[u64; 32]; 32],
+pub(crate) struct State {
+    pub(crate) time: u64,
+    pub(crate) assigned: [u32; 64],
+    pub(crate) granted: [u32; 32],
+    pub(crate) sessions: [Session; 32],
+    pub(crate) did: [[u64; 32]; 32],
 }
 
-fn has(set: u32, member: usize) -> bool {
+pub(crate) fn has(set: u32, member: usize) -> bool {
     set >> member & 1 == 1
 }
 
 impl State {
-    fn fresh() -> State {
+    pub(crate) fn fresh() -> State {
         State {
             time: 0,
             assigned: [0; 64],
@@ -154,7 +198,7 @@ impl State {
                 let roles = self.active_anywhere();
                 !has(roles, r) || has(roles, q)
             }
-            Rule::During(r, ref week) => week_holds(week, self.time) || !has(self.active_anywhere(), r),
+            Rule::During(r, ref term) => term_holds(term, self.time) || !has(self.active_anywhere(), r),
             Rule::At(r, inside, ref shape) => self
                 .sessions
                 .iter()
@@ -171,7 +215,7 @@ impl State {
                 let roles = self.active_anywhere();
                 has(roles, r) && !has(roles, q) && self.end_role(r)
             }
-            Rule::During(r, ref week) => !week_holds(week, self.time) && self.end_role(r),
+            Rule::During(r, ref term) => !term_holds(term, self.time) && self.end_role(r),
             Rule::At(r, inside, ref shape) => {
                 let mut some = false;
                 for session in &mut self.sessions {
@@ -275,7 +319,7 @@ fn settle<const PLAIN: bool>(state: &mut State, rules: &[Rule], kind: u64, befor
 }
 
 // 'State and steps': one step, its checks in the table's order.
-fn step<const PLAIN: bool>(state: &mut State, rules: &[Rule], step: &Step) -> u64 {
+pub(crate) fn step<const PLAIN: bool>(state: &mut State, rules: &[Rule], step: &Step) -> u64 {
     let Step { kind, first, second, third, x, y } = *step;
     let on_grid = |z: i64| (-1_000_000..=1_000_000).contains(&z);
     let in_range = match kind {
@@ -496,12 +540,12 @@ fn rule_of(family: u64, first: u64, second: u64, number: u64) -> Rule {
         8 => Rule::Needs(r, q),
         9 => Rule::During(
             r,
-            Week {
+            Term::Week(Week {
                 first: number % 7 + 1,
                 last: (number + 5) % 7 + 1,
                 start: number / 49 % 24 * 100,
                 end: (number / 49 % 24 + 14) % 24 * 100 + 30,
-            },
+            }),
         ),
         10 => match number % 4 {
             0 => Rule::At(r, true, Shape::Circle { x: 100, y: -100, radius: 700 + (n % 300) as i64 }),
@@ -594,7 +638,7 @@ fn fill(list: u64, number: u64, seed: &mut u64, steps: &mut [Step; BATCH]) {
     }
 }
 
-fn added(sum: u64, entry: u64) -> u64 {
+pub(crate) fn added(sum: u64, entry: u64) -> u64 {
     (sum % 1_099_511_627_776 * 65_599 + entry % 1_099_511_627_776) % 1_099_511_627_776
 }
 
