@@ -46,28 +46,33 @@ fn most_rules() {
 fn rule_after(name: &[u8], line: &[u8]) {
     let mut text = [0u8; 3246];
     rule_text::write_rules(list_of_128(), &mut text);
-    copy(line, &mut text[3220..]);
+    copy(line, &mut text, 3220);
     io::write_all(1, name);
     rule_lists::answered(&text);
 }
 
-// As many bytes as there are places.
-fn copy(text: &[u8], out: &mut [u8]) {
+// A text from a place on, as far as there is room.
+fn copy(text: &[u8], out: &mut [u8], at: usize) {
     for i in 0..text.len() {
-        place(out, i, text[i]);
+        place(out, at, i, text[i]);
     }
 }
 
-fn place(out: &mut [u8], i: usize, byte: u8) {
-    if i < out.len() {
-        out[i] = byte;
+// The byte i places after another.
+fn place(out: &mut [u8], at: usize, i: usize, byte: u8) {
+    if out.len() <= at {
+        return;
     }
+    if out.len() - at <= i {
+        return;
+    }
+    out[at + i] = byte;
 }
 
 // `(steps)`, 6,551 lines `(clock 0)` and two lines `(lost 0)` are 65,536 bytes; the next byte starts a line more.
 fn fill(text: &mut [u8]) {
     for i in 0..text.len() {
-        place(text, i, byte_at(i));
+        place(text, 0, i, byte_at(i));
     }
 }
 

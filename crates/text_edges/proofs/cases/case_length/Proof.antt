@@ -1,41 +1,37 @@
+-- `text_edges::cases::case_length` meets its contract. The loop's invariant: the index is at most the length.
+-- Assumes nothing.
+use borrow.Author.Needs.{needs}
+use Prim.Native.Nat.{_-_, _≤_}
+use lib.ListN.{length}
 use Rattle.text_edges.proofs.cases.case_length.Statement.{statement}
 use Rattle.text_edges.proofs.cases.case_length.Tie as tie
-use Rattle.text_edges.proofs.cases.case_length.Reads as reads
-use Rattle.text_edges.proofs.cases.case_length.Lts as lts
 
 abbrev Inv-loop : tie.InvT-loop
-Inv-loop text i₀ i = ?
+Inv-loop text i₀ i = i ≤ length text
 
 abbrev μ-loop : tie.MeasureT-loop
-μ-loop text i₀ i = ?
+μ-loop text i₀ i = length text - i
 
--- src/cases.rt:36:5
 loop-holds : tie.Need-loop-holds Inv-loop μ-loop
-loop-holds c = ?
+loop-holds c = search needs
 
--- src/cases.rt:37:12
 shared-slice-read-if1 : tie.Need-shared-slice-read-if1 Inv-loop μ-loop
-shared-slice-read-if1 c = ?
+shared-slice-read-if1 c = search needs
 
--- src/cases.rt:38:13
 returns : tie.Need-returns Inv-loop μ-loop
-returns c = ?
+returns c = search needs
 
--- src/cases.rt:40:9
 add-i : tie.Need-add-i Inv-loop μ-loop
-add-i c = ?
+add-i c = search needs
 
--- src/cases.rt:36:5
 loop-less : tie.Need-loop-less Inv-loop μ-loop
-loop-less c = ?
+loop-less c = search needs
 
--- src/cases.rt:36:5
 loop-again : tie.Need-loop-again Inv-loop μ-loop
-loop-again c = ?
+loop-again c = search needs
 
--- src/cases.rt:32:1
 returns-2 : tie.Need-returns-2 Inv-loop μ-loop
-returns-2 c = ?
+returns-2 c = search needs
 
 pub case-length-spec : {M : Type 1} → statement M
 case-length-spec =

@@ -1,46 +1,43 @@
+-- `text_edges::cases::cuts` is safe and ends. The loop's invariant: the index is at most the length.
+-- Assumes nothing.
+use borrow.Author.Needs.{needs}
+use mathlib.Core.Path.{_≡_, sym}
+use native.Mathlib.Omega.{arith}
+use lib.Seq.{length-take-le}
+use Prim.Native.Nat.{_-_, _≤_}
+use lib.ListN.{length}
 use Rattle.text_edges.proofs.cases.cuts.Statement.{statement}
 use Rattle.text_edges.proofs.cases.cuts.Tie as tie
-use Rattle.text_edges.proofs.cases.cuts.Reads as reads
-use Rattle.text_edges.proofs.cases.cuts.Lts as lts
-use Rattle.text_edges.proofs.cases.cut.Reads as cut-reads
 
 abbrev Inv-loop : tie.InvT-loop
-Inv-loop reader text end₀ end-end end = ?
+Inv-loop reader text end₀ end-end end = (end-end ≡ length text) × (end ≤ end-end)
 
 abbrev μ-loop : tie.MeasureT-loop
-μ-loop reader text end₀ end-end end = ?
+μ-loop reader text end₀ end-end end = end-end - end
 
--- src/cases.rt:52:5
 loop-holds : tie.Need-loop-holds Inv-loop μ-loop
-loop-holds c = ?
+loop-holds c = search needs
 
--- src/cases.rt:53:21
 slice-aggregate-cut : tie.Need-slice-aggregate-cut Inv-loop μ-loop
-slice-aggregate-cut c = ?
+slice-aggregate-cut c = sym (length-take-le _ _ (omega arith))
 
--- src/cases.rt:53:9
 cut-requires : tie.Need-cut-requires Inv-loop μ-loop
-cut-requires c κs = ?
+cut-requires c κs = search needs
 
--- src/cases.rt:52:9
 add-end : tie.Need-add-end Inv-loop μ-loop
-add-end c = ?
+add-end c = search needs
 
--- src/cases.rt:52:5
 loop-less : tie.Need-loop-less Inv-loop μ-loop
-loop-less c = ?
+loop-less c = search needs
 
--- src/cases.rt:52:5
 loop-again : tie.Need-loop-again Inv-loop μ-loop
-loop-again c = ?
+loop-again c = search needs
 
--- src/cases.rt:55:5
 cut-requires-2 : tie.Need-cut-requires-2 Inv-loop μ-loop
-cut-requires-2 c κs = ?
+cut-requires-2 c κs = search needs
 
--- src/cases.rt:51:1
 returns : tie.Need-returns Inv-loop μ-loop
-returns c = ?
+returns c = search needs
 
 pub cuts-spec : {M : Type 1} → statement M
 cuts-spec =

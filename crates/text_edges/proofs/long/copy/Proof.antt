@@ -1,46 +1,41 @@
+-- `text_edges::long::copy` is safe and ends. The loop's invariant: the index is at most the length.
+-- Assumes nothing.
+use borrow.Author.Needs.{needs}
+use mathlib.Core.Path.{_≡_}
+use Prim.Native.Nat.{_-_, _≤_}
+use lib.ListN.{length}
 use Rattle.text_edges.proofs.long.copy.Statement.{statement}
 use Rattle.text_edges.proofs.long.copy.Tie as tie
-use Rattle.text_edges.proofs.long.copy.Reads as reads
-use Rattle.text_edges.proofs.long.copy.Lts as lts
-use Rattle.text_edges.proofs.long.place.Reads as place-reads
 
 abbrev Inv-loop : tie.InvT-loop
-Inv-loop text out₀ i₀ i-end out i = ?
+Inv-loop text out₀ at i₀ i-end out i = (i-end ≡ length text) × (i ≤ i-end) × (length out ≡ length out₀)
 
 abbrev μ-loop : tie.MeasureT-loop
-μ-loop text out₀ i₀ i-end out i = ?
+μ-loop text out₀ at i₀ i-end out i = i-end - i
 
--- src/long.rt:56:5
 loop-holds : tie.Need-loop-holds Inv-loop μ-loop
-loop-holds c = ?
+loop-holds c = search needs
 
--- src/long.rt:57:23
 shared-slice-read-place : tie.Need-shared-slice-read-place Inv-loop μ-loop
-shared-slice-read-place c = ?
+shared-slice-read-place c = search needs
 
--- src/long.rt:57:9
 place-requires : tie.Need-place-requires Inv-loop μ-loop
-place-requires c κs = ?
+place-requires c κs = search needs
 
--- src/long.rt:56:9
 add-i : tie.Need-add-i Inv-loop μ-loop
-add-i c = ?
+add-i c = search needs
 
--- src/long.rt:56:5
 loop-less : tie.Need-loop-less Inv-loop μ-loop
-loop-less c = ?
+loop-less c = search needs
 
--- src/long.rt:56:5
 loop-again : tie.Need-loop-again Inv-loop μ-loop
-loop-again c = ?
+loop-again c = search needs
 
--- src/long.rt:55:1
 same-length : tie.Need-same-length Inv-loop μ-loop
-same-length c = ?
+same-length c = search needs
 
--- src/long.rt:55:1
 returns : tie.Need-returns Inv-loop μ-loop
-returns c = ?
+returns c = search needs
 
 pub copy-spec : {M : Type 1} → statement M
 copy-spec =

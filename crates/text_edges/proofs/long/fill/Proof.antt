@@ -1,47 +1,41 @@
+-- `text_edges::long::fill` is safe and ends. The loop's invariant: the index is at most the length, which stays.
+-- Assumes nothing.
+use borrow.Author.Needs.{needs}
+use mathlib.Core.Path.{_≡_}
+use Prim.Native.Nat.{_-_, _≤_}
+use lib.ListN.{length}
 use Rattle.text_edges.proofs.long.fill.Statement.{statement}
 use Rattle.text_edges.proofs.long.fill.Tie as tie
-use Rattle.text_edges.proofs.long.fill.Reads as reads
-use Rattle.text_edges.proofs.long.fill.Lts as lts
-use Rattle.text_edges.proofs.long.byte_at.Reads as byte-at-reads
-use Rattle.text_edges.proofs.long.place.Reads as place-reads
 
 abbrev Inv-loop : tie.InvT-loop
-Inv-loop text₀ i₀ i-end text i = ?
+Inv-loop text₀ i₀ i-end text i = (i ≤ i-end) × (length text ≡ length text₀)
 
 abbrev μ-loop : tie.MeasureT-loop
-μ-loop text₀ i₀ i-end text i = ?
+μ-loop text₀ i₀ i-end text i = i-end - i
 
--- src/long.rt:69:5
 loop-holds : tie.Need-loop-holds Inv-loop μ-loop
-loop-holds c = ?
+loop-holds c = search needs
 
--- src/long.rt:70:24
 byte-at-requires : tie.Need-byte-at-requires Inv-loop μ-loop
-byte-at-requires c κs = ?
+byte-at-requires c κs = search needs
 
--- src/long.rt:70:9
 place-requires : tie.Need-place-requires Inv-loop μ-loop
-place-requires c κs = ?
+place-requires c κs = search needs
 
--- src/long.rt:69:9
 add-i : tie.Need-add-i Inv-loop μ-loop
-add-i c = ?
+add-i c = search needs
 
--- src/long.rt:69:5
 loop-less : tie.Need-loop-less Inv-loop μ-loop
-loop-less c = ?
+loop-less c = search needs
 
--- src/long.rt:69:5
 loop-again : tie.Need-loop-again Inv-loop μ-loop
-loop-again c = ?
+loop-again c = search needs
 
--- src/long.rt:68:1
 same-length : tie.Need-same-length Inv-loop μ-loop
-same-length c = ?
+same-length c = search needs
 
--- src/long.rt:68:1
 returns : tie.Need-returns Inv-loop μ-loop
-returns c = ?
+returns c = search needs
 
 pub fill-spec : {M : Type 1} → statement M
 fill-spec =

@@ -1,23 +1,21 @@
+-- `text_edges::showing::front` is safe and ends.
+-- Assumes nothing.
 use borrow.Author.Needs.{needs}
+use mathlib.Core.Path.{sym}
+use native.Mathlib.Omega.{arith}
+use lib.Seq.{length-take-le}
 use Rattle.text_edges.proofs.showing.front.Statement.{statement}
 use Rattle.text_edges.proofs.showing.front.Tie as tie
-use Rattle.text_edges.proofs.showing.front.Reads as reads
-use Rattle.text_edges.proofs.showing.front.Lts as lts
-use Rattle.io.proofs.write_all.Reads as write-all-reads
 
--- src/showing.rt:58:9
 returns : tie.Need-returns
 returns c = search needs
 
--- src/showing.rt:60:22
 slice-aggregate-write-all : tie.Need-slice-aggregate-write-all
-slice-aggregate-write-all c = ?
+slice-aggregate-write-all c = sym (length-take-le _ _ (omega arith))
 
--- src/showing.rt:60:5
 write-all-requires : tie.Need-write-all-requires
 write-all-requires c κs = search needs
 
--- src/showing.rt:56:1
 returns-2 : tie.Need-returns-2
 returns-2 c = search needs
 

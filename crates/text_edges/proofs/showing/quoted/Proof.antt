@@ -1,59 +1,50 @@
+-- `text_edges::showing::quoted` is safe and ends. The loop's invariant: the index is at most the length.
+-- Assumes nothing.
+use borrow.Author.Needs.{needs}
+use mathlib.Core.Path.{_≡_}
+use Prim.Native.Nat.{_-_, _≤_}
+use lib.ListN.{length}
 use Rattle.text_edges.proofs.showing.quoted.Statement.{statement}
 use Rattle.text_edges.proofs.showing.quoted.Tie as tie
-use Rattle.text_edges.proofs.showing.quoted.Reads as reads
-use Rattle.text_edges.proofs.showing.quoted.Lts as lts
-use Rattle.io.proofs.write_all.Reads as write-all-reads
-use Rattle.text_edges.proofs.showing.show_byte.Reads as show-byte-reads
 
 abbrev Inv-loop : tie.InvT-loop
-Inv-loop text i₀ t4 i-end i = ?
+Inv-loop text i₀ t4 i-end i = (i-end ≡ length text) × (i ≤ i-end)
 
 abbrev μ-loop : tie.MeasureT-loop
-μ-loop text i₀ t4 i-end i = ?
+μ-loop text i₀ t4 i-end i = i-end - i
 
--- src/showing.rt:11:22
 slice-aggregate-write-all : tie.Need-slice-aggregate-write-all Inv-loop μ-loop
-slice-aggregate-write-all c = ?
+slice-aggregate-write-all c = search needs
 
--- src/showing.rt:11:5
 write-all-requires : tie.Need-write-all-requires Inv-loop μ-loop
-write-all-requires c κs = ?
+write-all-requires c κs = search needs
 
--- src/showing.rt:12:5
 loop-holds : tie.Need-loop-holds Inv-loop μ-loop
-loop-holds c = ?
+loop-holds c = search needs
 
--- src/showing.rt:13:19
 shared-slice-read-show-byte : tie.Need-shared-slice-read-show-byte Inv-loop μ-loop
-shared-slice-read-show-byte c = ?
+shared-slice-read-show-byte c = search needs
 
--- src/showing.rt:13:9
 show-byte-requires : tie.Need-show-byte-requires Inv-loop μ-loop
-show-byte-requires c κs = ?
+show-byte-requires c κs = search needs
 
--- src/showing.rt:12:9
 add-i : tie.Need-add-i Inv-loop μ-loop
-add-i c = ?
+add-i c = search needs
 
--- src/showing.rt:12:5
 loop-less : tie.Need-loop-less Inv-loop μ-loop
-loop-less c = ?
+loop-less c = search needs
 
--- src/showing.rt:12:5
 loop-again : tie.Need-loop-again Inv-loop μ-loop
-loop-again c = ?
+loop-again c = search needs
 
--- src/showing.rt:15:22
 slice-aggregate-write-all-2 : tie.Need-slice-aggregate-write-all-2 Inv-loop μ-loop
-slice-aggregate-write-all-2 c = ?
+slice-aggregate-write-all-2 c = search needs
 
--- src/showing.rt:15:5
 write-all-requires-2 : tie.Need-write-all-requires-2 Inv-loop μ-loop
-write-all-requires-2 c κs = ?
+write-all-requires-2 c κs = search needs
 
--- src/showing.rt:10:1
 returns : tie.Need-returns Inv-loop μ-loop
-returns c = ?
+returns c = search needs
 
 pub quoted-spec : {M : Type 1} → statement M
 quoted-spec =

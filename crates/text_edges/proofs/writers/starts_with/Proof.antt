@@ -1,42 +1,38 @@
+-- `text_edges::writers::starts_with` is safe and ends. The loop's invariant: the index is at most the length.
+-- Assumes nothing.
+use borrow.Author.Needs.{needs}
+use mathlib.Core.Path.{_≡_}
+use Prim.Native.Nat.{_-_, _≤_}
+use lib.ListN.{length}
 use Rattle.text_edges.proofs.writers.starts_with.Statement.{statement}
 use Rattle.text_edges.proofs.writers.starts_with.Tie as tie
-use Rattle.text_edges.proofs.writers.starts_with.Reads as reads
-use Rattle.text_edges.proofs.writers.starts_with.Lts as lts
-use Rattle.text_edges.proofs.writers.holds.Reads as holds-reads
 
 abbrev Inv-loop : tie.InvT-loop
-Inv-loop out text is-same₀ i₀ i-end is-same i = ?
+Inv-loop out text is-same₀ i₀ i-end is-same i = (i-end ≡ length text) × (i ≤ i-end)
 
 abbrev μ-loop : tie.MeasureT-loop
-μ-loop out text is-same₀ i₀ i-end is-same i = ?
+μ-loop out text is-same₀ i₀ i-end is-same i = i-end - i
 
--- src/writers.rt:223:5
 loop-holds : tie.Need-loop-holds Inv-loop μ-loop
-loop-holds c = ?
+loop-holds c = search needs
 
--- src/writers.rt:224:43
 shared-slice-read-holds : tie.Need-shared-slice-read-holds Inv-loop μ-loop
-shared-slice-read-holds c = ?
+shared-slice-read-holds c = search needs
 
--- src/writers.rt:224:29
 holds-requires : tie.Need-holds-requires Inv-loop μ-loop
-holds-requires c κs = ?
+holds-requires c κs = search needs
 
--- src/writers.rt:223:9
 add-i : tie.Need-add-i Inv-loop μ-loop
-add-i c = ?
+add-i c = search needs
 
--- src/writers.rt:223:5
 loop-less : tie.Need-loop-less Inv-loop μ-loop
-loop-less c = ?
+loop-less c = search needs
 
--- src/writers.rt:223:5
 loop-again : tie.Need-loop-again Inv-loop μ-loop
-loop-again c = ?
+loop-again c = search needs
 
--- src/writers.rt:221:1
 returns : tie.Need-returns Inv-loop μ-loop
-returns c = ?
+returns c = search needs
 
 pub starts-with-spec : {M : Type 1} → statement M
 starts-with-spec =

@@ -1,38 +1,33 @@
+-- `text_edges::writers::stays` is safe and ends. The loop's measure is what is left of the length.
+-- Assumes nothing.
+use borrow.Author.Needs.{needs}
+use Prim.Native.Nat.{_-_, _≤_}
 use Rattle.text_edges.proofs.writers.stays.Statement.{statement}
 use Rattle.text_edges.proofs.writers.stays.Tie as tie
-use Rattle.text_edges.proofs.writers.stays.Reads as reads
-use Rattle.text_edges.proofs.writers.stays.Lts as lts
-use Rattle.text_edges.proofs.writers.holds.Reads as holds-reads
 
 abbrev Inv-loop : tie.InvT-loop
-Inv-loop out from is-same₀ i₀ i-end is-same i = ?
+Inv-loop out from is-same₀ i₀ i-end is-same i = i-end ≤ 18446744073709551615
 
 abbrev μ-loop : tie.MeasureT-loop
-μ-loop out from is-same₀ i₀ i-end is-same i = ?
+μ-loop out from is-same₀ i₀ i-end is-same i = i-end - i
 
--- src/writers.rt:239:5
 loop-holds : tie.Need-loop-holds Inv-loop μ-loop
-loop-holds c = ?
+loop-holds c = search needs
 
--- src/writers.rt:240:29
 holds-requires : tie.Need-holds-requires Inv-loop μ-loop
-holds-requires c κs = ?
+holds-requires c κs = search needs
 
--- src/writers.rt:239:9
 add-i : tie.Need-add-i Inv-loop μ-loop
-add-i c = ?
+add-i c = search needs
 
--- src/writers.rt:239:5
 loop-less : tie.Need-loop-less Inv-loop μ-loop
-loop-less c = ?
+loop-less c = search needs
 
--- src/writers.rt:239:5
 loop-again : tie.Need-loop-again Inv-loop μ-loop
-loop-again c = ?
+loop-again c = search needs
 
--- src/writers.rt:237:1
 returns : tie.Need-returns Inv-loop μ-loop
-returns c = ?
+returns c = search needs
 
 pub stays-spec : {M : Type 1} → statement M
 stays-spec =
