@@ -30,7 +30,6 @@ pub fn all() {
     missing();
     heading(b"input: one form a line, line feed after each, single spaces");
     lines();
-    step_lines();
     heading(b"input: the first bad line, counted over rules, (steps) and steps");
     first_bad();
     heading(b"input: document 01's listing");
@@ -75,14 +74,6 @@ fn lines() {
 \xff|\
 (rule 1 (needs 2 1))\n\n(steps)\n|\
 (rule 1 (needs 2 1))\r\n(steps)\n|\
-",
-    );
-}
-
-fn step_lines() {
-    each(
-        Reader::Input,
-        b"\
 (steps)\n\n|\
 (steps)\n(clock 0)|\
 (steps)\n(clock 0)\n\n|\

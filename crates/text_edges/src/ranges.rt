@@ -5,27 +5,19 @@ use crate::showing::heading;
 
 pub fn all() {
     heading(b"rule list: roles, permissions and limits, number outside its range");
-    role_pairs();
-    permissions();
-    limits();
+    roles_and_limits();
     heading(b"rule list: places, number outside its range");
-    circles();
-    boxes();
+    shapes();
     heading(b"rule list: terms, number outside its range");
-    weekdays();
-    minutes();
-    months();
-    ordinals();
-    intervals();
-    years();
+    weeks_and_months();
+    days();
     heading(b"rule list: no such date, A after B, h = k, box a > c or b > d");
-    dates();
     unsound();
     heading(b"rule list: yyyymmdd has eight digits, hhmm four");
     widths();
 }
 
-fn role_pairs() {
+fn roles_and_limits() {
     each(
         Reader::RuleList,
         b"\
@@ -41,28 +33,12 @@ fn role_pairs() {
 (rule 1 (needs 0 31))\n|\
 (rule 1 (needs 32 0))\n|\
 (rule 1 (needs 0 32))\n|\
-",
-    );
-}
-
-fn permissions() {
-    each(
-        Reader::RuleList,
-        b"\
 (rule 1 (two-hands 0 31))\n|\
 (rule 1 (two-hands 32 0))\n|\
 (rule 1 (two-hands 0 32))\n|\
 (rule 1 (same-hand 31 0))\n|\
 (rule 1 (same-hand 32 0))\n|\
 (rule 1 (same-hand 0 32))\n|\
-",
-    );
-}
-
-fn limits() {
-    each(
-        Reader::RuleList,
-        b"\
 (rule 1 (max-users 0 0))\n|\
 (rule 1 (max-users 31 64))\n|\
 (rule 1 (max-users 32 64))\n|\
@@ -81,7 +57,7 @@ fn limits() {
     );
 }
 
-fn circles() {
+fn shapes() {
     each(
         Reader::RuleList,
         b"\
@@ -96,14 +72,6 @@ fn circles() {
 (rule 1 (at 0 (inside (circle 0 0 100001))))\n|\
 (rule 1 (at 32 (outside (circle 0 0 1))))\n|\
 (rule 1 (at 0 (outside (circle 0 0 0))))\n|\
-",
-    );
-}
-
-fn boxes() {
-    each(
-        Reader::RuleList,
-        b"\
 (rule 1 (at 31 (inside (box -1000000 -1000000 1000000 1000000))))\n|\
 (rule 1 (at 0 (inside (box 0 0 0 0))))\n|\
 (rule 1 (at 0 (inside (box -1000001 0 0 0))))\n|\
@@ -117,7 +85,7 @@ fn boxes() {
     );
 }
 
-fn weekdays() {
+fn weeks_and_months() {
     each(
         Reader::RuleList,
         b"\
@@ -128,14 +96,6 @@ fn weekdays() {
 (rule 1 (during 0 (week 8 7 0000 2400)))\n|\
 (rule 1 (during 0 (week 1 0 0000 2400)))\n|\
 (rule 1 (during 0 (week 1 8 0000 2400)))\n|\
-",
-    );
-}
-
-fn minutes() {
-    each(
-        Reader::RuleList,
-        b"\
 (rule 1 (during 0 (week 1 7 2359 0001)))\n|\
 (rule 1 (during 0 (week 1 7 2400 0001)))\n|\
 (rule 1 (during 0 (week 1 7 0001 0000)))\n|\
@@ -146,14 +106,6 @@ fn minutes() {
 (rule 1 (during 0 (week 1 7 0660 0700)))\n|\
 (rule 1 (during 0 (week 1 7 0700 0799)))\n|\
 (rule 1 (during 0 (week 1 7 9999 9999)))\n|\
-",
-    );
-}
-
-fn months() {
-    each(
-        Reader::RuleList,
-        b"\
 (rule 1 (during 0 (months 1 12)))\n|\
 (rule 1 (during 0 (months 12 1)))\n|\
 (rule 1 (during 0 (months 0 12)))\n|\
@@ -165,7 +117,7 @@ fn months() {
     );
 }
 
-fn ordinals() {
+fn days() {
     each(
         Reader::RuleList,
         b"\
@@ -176,27 +128,11 @@ fn ordinals() {
 (rule 1 (during 0 (nth 1 0)))\n|\
 (rule 1 (during 0 (nth 1 8)))\n|\
 (rule 1 (during 32 (nth 1 1)))\n|\
-",
-    );
-}
-
-fn intervals() {
-    each(
-        Reader::RuleList,
-        b"\
 (rule 1 (during 0 (every 1 20000101)))\n|\
 (rule 1 (during 0 (every 1000 20991231)))\n|\
 (rule 1 (during 0 (every 0 20000101)))\n|\
 (rule 1 (during 0 (every 1001 20000101)))\n|\
 (rule 1 (during 32 (every 1 20000101)))\n|\
-",
-    );
-}
-
-fn years() {
-    each(
-        Reader::RuleList,
-        b"\
 (rule 1 (during 0 (dates 20000101 20991231)))\n|\
 (rule 1 (during 0 (dates 19991231 20000101)))\n|\
 (rule 1 (during 0 (dates 20991231 21000101)))\n|\
@@ -209,7 +145,7 @@ fn years() {
     );
 }
 
-fn dates() {
+fn unsound() {
     each(
         Reader::RuleList,
         b"\
@@ -226,14 +162,6 @@ fn dates() {
 (rule 1 (during 0 (dates 20000101 20999999)))\n|\
 (rule 1 (during 0 (every 7 20000229)))\n|\
 (rule 1 (during 0 (every 7 20010229)))\n|\
-",
-    );
-}
-
-fn unsound() {
-    each(
-        Reader::RuleList,
-        b"\
 (rule 1 (during 0 (dates 20000101 20000101)))\n|\
 (rule 1 (during 0 (dates 20000102 20000101)))\n|\
 (rule 1 (during 0 (week 1 5 0700 0700)))\n|\

@@ -22,8 +22,7 @@ pub fn all() {
     heading(b"rule list: line is no form of its text");
     no_forms();
     heading(b"rule list: no leading zeros, a minus only before x, y and box ends, never before 0");
-    zeros();
-    minuses();
+    signs();
     heading(b"rule list: at most 10 digits");
     digits();
     heading(b"rule list: numbered from 1 by ones");
@@ -101,7 +100,7 @@ fn no_forms() {
     );
 }
 
-fn zeros() {
+fn signs() {
     each(
         Reader::RuleList,
         b"\
@@ -110,14 +109,6 @@ fn zeros() {
 (rule 1 (needs 2 00))\n|\
 (rule 1 (needs 2 0))\n|\
 (rule 1 (at 2 (inside (circle -05 0 5))))\n|\
-",
-    );
-}
-
-fn minuses() {
-    each(
-        Reader::RuleList,
-        b"\
 (rule 1 (at 2 (inside (circle -5 -5 5))))\n|\
 (rule 1 (at 2 (outside (box -5 -5 -5 -5))))\n|\
 (rule 1 (at 2 (inside (circle -0 0 5))))\n|\

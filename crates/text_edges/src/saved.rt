@@ -68,7 +68,6 @@ pub fn all() {
     numbers();
     heading(b"saved state: number outside its range");
     ranges();
-    places();
     heading(b"saved state: another form in the first line is 15");
     first_lines();
     heading(b"saved state: saved line twice");
@@ -85,10 +84,8 @@ pub fn all() {
         b"(now 0)\n(open 3 0)\n(place 3 -5 10)\n",
     );
     heading(b"saved state: breaks a rule of each family, and keeps it");
-    role_families();
-    active_families();
-    contexts();
-    histories();
+    sets_of_roles();
+    contexts_and_histories();
     heading(b"saved state: the lowest rule; 40 before them all");
     lowest();
     handed_in();
@@ -164,14 +161,6 @@ fn ranges() {
 (now 0)\n(did 32 0 0)\n|\
 (now 0)\n(did 0 32 0)\n|\
 (now 0)\n(did 0 0 64)\n|\
-",
-    );
-}
-
-fn places() {
-    each(
-        Reader::SavedState,
-        b"\
 (now 0)\n(open 0 0)\n(place 0 1000000 -1000000)\n|\
 (now 0)\n(open 31 0)\n(place 31 -1000000 1000000)\n|\
 (now 0)\n(open 0 0)\n(place 32 0 0)\n|\
@@ -276,7 +265,7 @@ fn order() {
     );
 }
 
-fn role_families() {
+fn sets_of_roles() {
     each(
         Reader::StateUnderRules,
         b"\
@@ -288,14 +277,6 @@ fn role_families() {
 (now 0)\n(assigned 0 13)\n(assigned 0 14)\n(assigned 0 15)\n(assigned 1 16)\n|\
 (now 0)\n(granted 4 0)\n(granted 4 31)\n|\
 (now 0)\n(granted 4 31)\n(granted 5 0)\n(granted 5 1)\n|\
-",
-    );
-}
-
-fn active_families() {
-    each(
-        Reader::StateUnderRules,
-        b"\
 (now 0)\n(assigned 0 13)\n(assigned 0 14)\n(assigned 0 15)\n(open 0 0)\n(active 0 13)\n(active 0 14)\n(active 0 15)\n|\
 (now 0)\n(assigned 0 13)\n(assigned 0 14)\n(assigned 0 15)\n(open 0 0)\n(active 0 13)\n(active 0 14)\n(open 1 0)\n(active 1 15)\n|\
 (now 0)\n(assigned 7 5)\n(assigned 7 6)\n|\
@@ -309,7 +290,7 @@ fn active_families() {
 }
 
 // Day 0 is weekday 6: day 2 is a Monday and day 7 a Saturday.
-fn contexts() {
+fn contexts_and_histories() {
     each(
         Reader::StateUnderRules,
         b"\
@@ -320,14 +301,6 @@ fn contexts() {
 (now 0)\n(assigned 0 12)\n(open 0 0)\n(place 0 4 4)\n(active 0 12)\n|\
 (now 0)\n(assigned 0 12)\n(open 0 0)\n(place 0 3 4)\n(active 0 12)\n|\
 (now 0)\n(assigned 0 12)\n(open 0 0)\n(active 0 12)\n|\
-",
-    );
-}
-
-fn histories() {
-    each(
-        Reader::StateUnderRules,
-        b"\
 (now 0)\n(did 0 1 5)\n(did 0 2 5)\n|\
 (now 0)\n(did 0 1 5)\n(did 0 2 6)\n(did 1 2 5)\n|\
 (now 0)\n(did 0 3 5)\n(did 0 4 6)\n|\

@@ -5,16 +5,14 @@ use crate::showing::heading;
 
 pub fn all() {
     heading(b"step: no leading zeros, a minus only before x and y, never before 0");
-    zeros();
-    minuses();
+    signs();
     heading(b"step: at most 10 digits; past its range is 20");
     digits();
     heading(b"step: each kind at the ends of its ranges and past them");
-    requests();
-    events();
+    ranges();
 }
 
-fn zeros() {
+fn signs() {
     each(
         Reader::Input,
         b"\
@@ -23,14 +21,6 @@ fn zeros() {
 (steps)\n(assign 05 1)\n|\
 (steps)\n(move 0 01 0)\n|\
 (steps)\n(move 0 -01 0)\n|\
-",
-    );
-}
-
-fn minuses() {
-    each(
-        Reader::Input,
-        b"\
 (steps)\n(clock -0)\n|\
 (steps)\n(clock -1)\n|\
 (steps)\n(assign 0 -1)\n|\
@@ -64,7 +54,7 @@ fn digits() {
     );
 }
 
-fn requests() {
+fn ranges() {
     each(
         Reader::Input,
         b"\
@@ -77,14 +67,6 @@ fn requests() {
 (steps)\n(deactivate 31 31)\n(deactivate 32 0)\n(deactivate 0 32)\n|\
 (steps)\n(access 31 31 31)\n(access 32 0 0)\n(access 0 32 0)\n(access 0 0 32)\n|\
 (steps)\n(finish 31)\n(finish 32)\n|\
-",
-    );
-}
-
-fn events() {
-    each(
-        Reader::Input,
-        b"\
 (steps)\n(close 31)\n(close 32)\n|\
 (steps)\n(move 31 -1000000 1000000)\n(move 32 0 0)\n(move 0 -1000001 0)\n(move 0 0 1000001)\n|\
 (steps)\n(lost 31)\n(lost 32)\n|\

@@ -56,7 +56,6 @@ pub fn all() {
         b"writing a rule list: 18 and every byte stays, or the text's length and bytes past it stay",
     );
     rule_lists();
-    every_form();
     heading(b"writing a saved state");
     saved_states();
     heading(b"writing a response");
@@ -83,9 +82,6 @@ fn rule_lists() {
     in_room(Writer::RuleList, b"42 bytes, room 41", &RULES, &RULES, 41);
     in_room(Writer::RuleList, b"42 bytes, room 42", &RULES, &RULES, 42);
     in_room(Writer::RuleList, b"42 bytes, room 64", &RULES, &RULES, 64);
-}
-
-fn every_form() {
     in_room(Writer::RuleList, b"every form", &FORMS, &FORMS, 1024);
 }
 
