@@ -77,7 +77,7 @@ unfolding readSteps
 check-start text = record { bound = length text; enough = omega arith; few = omega arith; same = refl }
 
 -- one line and what follows it
-read-next : (bound n : ℕ) (text : List ℕ) → 0 < length text
+pub read-next : (bound n : ℕ) (text : List ℕ) → 0 < length text
     → readFrom (suc bound) n text ≡ after n (readStep text) (readFrom bound (suc n) (drop (lineLength (readStep text)) text))
 unfolding readFrom
 read-next bound n [] h = absurd (omega arith)
