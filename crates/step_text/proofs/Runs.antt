@@ -1,4 +1,4 @@
--- What is written as the lines are gone through is the text of our gate's answers to the steps that were read; and how long it is.
+-- What comes of the lines as they are gone through is our gate's run over the steps that were read.
 -- Assumes nothing.
 use mathlib.Core.Path.{_≡_, refl, sym, ap, _∙_, subst}
 use mathlib.Core.Bool.{Bool, true, false, cond, _&&_}
@@ -12,45 +12,36 @@ use Rattle.enforcement.specs.declared.states.State.{State}
 use Rattle.enforcement.specs.declared.steps.Step.{Step}
 use Rattle.enforcement.specs.declared.steps.Next.{Next}
 use Rattle.step_text.specs.Lines.{readStep, StepsRead, steps, bad, onto, lineLength, after, readFrom, readSteps, badLine}
-use Rattle.step_text.specs.Answers.{answerText, answersText}
-use Rattle.step_text.specs.Running.{lineAnswered, answersFrom}
+use Rattle.step_text.specs.Running.{lineRun, runFrom, textRun}
 use Rattle.step_text.specs.declared.lines.StepRead.{StepRead}
 use Rattle.step_text.specs.declared.lines.StepRead.the-variants.{Good, Bad}
 
--- where every line is a step, the text is that of the run over them
-abbrev pub Runs : RuleList → State → List ℕ → StepsRead → Type 0
-Runs rules s text (steps list) = text ≡ answersText (runOf rules s list)
-Runs rules s text (bad line) = Unit {0}
+-- where every line is a step, what comes of the lines is the run over them
+abbrev pub Runs : RuleList → State → List Next → StepsRead → Type 0
+Runs rules s run (steps list) = run ≡ runOf rules s list
+Runs rules s run (bad line) = Unit {0}
 
-run-next : (rules : RuleList) (s : State) (step : Step) (list : List Step)
-    → answersText (runOf rules s (step ∷ list)) ≡ answerText (stepOf rules s step .answer) ++ answersText (runOf rules (stepOf rules s step .state) list)
-unfolding runOf answersText
+run-next : (rules : RuleList) (s : State) (step : Step) (list : List Step) → runOf rules s (step ∷ list) ≡ stepOf rules s step ∷ runOf rules (stepOf rules s step .state) list
+unfolding runOf
 run-next rules s step list = refl
 
-runs-after : (rules : RuleList) (s : State) (n : ℕ) (a : StepRead) (rest : State → List ℕ) (r : StepsRead) → ((next : State) → Runs rules next (rest next) r)
-    → Runs rules s (lineAnswered rules s a rest) (after n a r)
+runs-after : (rules : RuleList) (s : State) (n : ℕ) (a : StepRead) (rest : State → List Next) (r : StepsRead) → ((next : State) → Runs rules next (rest next) r)
+    → Runs rules s (lineRun rules s a rest) (after n a r)
 runs-after rules s n (Bad number) rest r h = tt
 runs-after rules s n (Good line) rest (bad k) h = tt
 runs-after rules s n (Good line) rest (steps list) h =
-    ap (λ (l : List ℕ). answerText (stepOf rules s (line .step) .answer) ++ l) (h (stepOf rules s (line .step) .state))
-    ∙ sym (run-next rules s (line .step) list)
+    ap (λ (run : List Next). stepOf rules s (line .step) ∷ run) (h (stepOf rules s (line .step) .state)) ∙ sym (run-next rules s (line .step) list)
 
-runs-from : (bound n : ℕ) (rules : RuleList) (s : State) (text : List ℕ) → Runs rules s (answersFrom bound rules s text) (readFrom bound n text)
-unfolding answersFrom readFrom
-runs-from zero n rules s text = nothing rules s
-  where
-    nothing : (rules : RuleList) (s : State) → [] ≡ answersText (runOf rules s [])
-    nothing rules s = unfold runOf answersText in refl
-runs-from (suc bound) n rules s [] = nothing rules s
-  where
-    nothing : (rules : RuleList) (s : State) → [] ≡ answersText (runOf rules s [])
-    nothing rules s = unfold runOf answersText in refl
+runs-from : (bound n : ℕ) (rules : RuleList) (s : State) (text : List ℕ) → Runs rules s (runFrom bound rules s text) (readFrom bound n text)
+unfolding runFrom readFrom
+runs-from zero n rules s text = unfold runOf in refl
+runs-from (suc bound) n rules s [] = unfold runOf in refl
 runs-from (suc bound) n rules s (c ∷ text) =
-    runs-after rules s n (readStep (c ∷ text)) (λ next. answersFrom bound rules next (drop (lineLength (readStep (c ∷ text))) (c ∷ text)))
+    runs-after rules s n (readStep (c ∷ text)) (λ next. runFrom bound rules next (drop (lineLength (readStep (c ∷ text))) (c ∷ text)))
     (readFrom bound (suc n) (drop (lineLength (readStep (c ∷ text))) (c ∷ text)))
     (λ next. runs-from bound (suc n) rules next (drop (lineLength (readStep (c ∷ text))) (c ∷ text)))
 
-pub answers-run : (n : ℕ) (rules : RuleList) (s : State) (text : List ℕ) → Runs rules s (answersFrom (length text) rules s text) (readSteps n text)
+pub answers-run : (n : ℕ) (rules : RuleList) (s : State) (text : List ℕ) → Runs rules s (textRun rules s text) (readSteps n text)
 unfolding readSteps
 answers-run n rules s text = runs-from (length text) n rules s text
 

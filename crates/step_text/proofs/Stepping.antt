@@ -19,13 +19,13 @@ use Rattle.forms.proofs.Finding.{Hits, found-hits}
 use Rattle.forms.proofs.Puts.{then, like, nothing-written, next-most}
 use Rattle.forms.proofs.Turns.{rest}
 use Rattle.rules.specs.declared.lists.RuleList.{RuleList}
-use Rattle.enforcement.specs.States.{fresh}
 use Rattle.enforcement.specs.Gate.{stepOf}
+use Rattle.enforcement.specs.Runs.{lastState}
 use Rattle.enforcement.specs.declared.states.State.{State}
 use Rattle.enforcement.specs.declared.steps.Next.{Next}
 use Rattle.step_text.specs.Lines.{stepForms, formCount, stepFrom, lineAfter, readStep, StepsRead, steps, bad, onto, lineLength, after, readFrom, readSteps, badLine}
-use Rattle.step_text.specs.Answers.{answerText}
-use Rattle.step_text.specs.Running.{answered, lineAnswered, answersFrom}
+use Rattle.step_text.specs.Answers.{answerText, answersText}
+use Rattle.step_text.specs.Running.{followed, lineRun, runFrom, textRun}
 use Rattle.step_text.specs.declared.lines.StepLine.{StepLine}
 use Rattle.step_text.specs.declared.lines.StepRead.{StepRead}
 use Rattle.step_text.specs.declared.lines.StepRead.the-variants.{Good, Bad}
@@ -130,46 +130,70 @@ check-end {text} {remaining} {line} v h = sym (v .same ∙ go (v .bound) remaini
     go (suc bound) [] k = unfold readFrom in refl
     go (suc bound) (c ∷ l) k = absurd (omega arith)
 
--- ---- writing the answers: to write what is left is to have written it all
+-- ---- writing the answers: to write what is left is to have written it all, and its last state is that of all
 
-pub record Answering (list : RuleList) (text l₀ : List ℕ) (at : ℕ) (l : List ℕ) (state : State) (remaining : List ℕ) (place : ℕ) : Type 0 where
+pub record Answering (list : RuleList) (s₀ : State) (text l₀ : List ℕ) (at : ℕ) (l : List ℕ) (state : State) (remaining : List ℕ) (place : ℕ) : Type 0 where
   pub bound : ℕ
   pub enough : length remaining ≤ bound
   pub room : length l₀ ≤ lastPlace
   pub within : place ≤ lastPlace
   pub same : length l ≡ length l₀
-  pub left : (r : ℕ) (l′ : List ℕ) → Wrote l place (answersFrom bound list state remaining) r l′ → Wrote l₀ at (answersFrom (length text) list fresh text) r l′
+  pub left : (r : ℕ) (l′ : List ℕ) → Wrote l place (answersText (runFrom bound list state remaining)) r l′ → Wrote l₀ at (answersText (textRun list s₀ text)) r l′
+  pub last : lastState state (runFrom bound list state remaining) ≡ lastState s₀ (textRun list s₀ text)
 
-pub answers-start : (list : RuleList) (text l : List ℕ) (at : ℕ) (state : State) → state ≡ fresh → length l ≤ lastPlace → at ≤ lastPlace → Answering list text l at l state text at
-answers-start list text l at state e m h = record {
+pub answers-start : (list : RuleList) (s : State) (text l : List ℕ) (at : ℕ) → length l ≤ lastPlace → at ≤ lastPlace → Answering list s text l at l s text at
+answers-start list s text l at m h = record {
   bound = length text;
   enough = omega arith;
   room = m;
   within = h;
   same = refl;
-  left = λ r l′ w. subst (λ (s : State). Wrote l at (answersFrom (length text) list s text) r l′) e w;
+  left = λ r l′ w. w;
+  last = refl;
 }
 
 answers-next : (bound : ℕ) (list : RuleList) (s : State) (text : List ℕ) → 0 < length text
-    → answersFrom (suc bound) list s text
-    ≡ lineAnswered list s (readStep text) (λ next. answersFrom bound list next (drop (lineLength (readStep text)) text))
-unfolding answersFrom
+    → runFrom (suc bound) list s text ≡ lineRun list s (readStep text) (λ next. runFrom bound list next (drop (lineLength (readStep text)) text))
+unfolding runFrom
 answers-next bound list s [] h = absurd (omega arith)
 answers-next bound list s (c ∷ text) h = refl
 
-module _ {list : RuleList} {text l₀ : List ℕ} {at : ℕ} {l : List ℕ} {state : State} {remaining : List ℕ} {place : ℕ}
-    (v : Answering list text l₀ at l state remaining place) (h : 0 < length remaining) (a : StepRead) (e : a ≡ readStep remaining) where
-  line-next : answersFrom (v .bound) list state remaining ≡ lineAnswered list state a (λ next. answersFrom (v .bound - 1) list next (drop (lineLength a) remaining))
-  line-next =
-      ap (λ (n : ℕ). answersFrom n list state remaining) (one-less (length remaining) (v .bound) h (v .enough))
-      ∙ answers-next (v .bound - 1) list state remaining h
-      ∙ ap (λ (x : StepRead). lineAnswered list state x (λ next. answersFrom (v .bound - 1) list next (drop (lineLength x) remaining))) (sym e)
+text-none : answersText [] ≡ []
+unfolding answersText
+text-none = refl
 
-  pub answers-stop : (number : ℕ) → a ≡ Bad number → Wrote l₀ at (answersFrom (length text) list fresh text) place l
+text-followed : (next : Next) (rest : State → List Next) → answersText (followed next rest) ≡ answerText (next .answer) ++ answersText (rest (next .state))
+unfolding answersText
+text-followed next rest = refl
+
+last-none : (s : State) → lastState s [] ≡ s
+unfolding lastState
+last-none s = refl
+
+last-followed : (s : State) (next : Next) (rest : State → List Next) → lastState s (followed next rest) ≡ lastState (next .state) (rest (next .state))
+unfolding lastState
+last-followed s next rest = refl
+
+-- where nothing is left to run, all is written, and the state is the last one
+ended : {list : RuleList} {s₀ : State} {text l₀ : List ℕ} {at : ℕ} {l : List ℕ} {state : State} {remaining : List ℕ} {place : ℕ}
+    (v : Answering list s₀ text l₀ at l state remaining place) → runFrom (v .bound) list state remaining ≡ []
+    → Wrote l₀ at (answersText (textRun list s₀ text)) place l × (state ≡ lastState s₀ (textRun list s₀ text))
+ended {list} {s₀} {text} {l₀} {at} {l} {state} {remaining} {place} v e = (
+  v .left place l (like (ap answersText e ∙ text-none) (nothing-written l place (v .within))),
+  sym (last-none state) ∙ ap (lastState state) (sym e) ∙ v .last,
+)
+
+module _ {list : RuleList} {s₀ : State} {text l₀ : List ℕ} {at : ℕ} {l : List ℕ} {state : State} {remaining : List ℕ} {place : ℕ}
+    (v : Answering list s₀ text l₀ at l state remaining place) (h : 0 < length remaining) (a : StepRead) (e : a ≡ readStep remaining) where
+  line-next : runFrom (v .bound) list state remaining ≡ lineRun list state a (λ next. runFrom (v .bound - 1) list next (drop (lineLength a) remaining))
+  line-next =
+      ap (λ (n : ℕ). runFrom n list state remaining) (one-less (length remaining) (v .bound) h (v .enough))
+      ∙ answers-next (v .bound - 1) list state remaining h
+      ∙ ap (λ (x : StepRead). lineRun list state x (λ next. runFrom (v .bound - 1) list next (drop (lineLength x) remaining))) (sym e)
+
+  pub answers-stop : (number : ℕ) → a ≡ Bad number → Wrote l₀ at (answersText (textRun list s₀ text)) place l × (state ≡ lastState s₀ (textRun list s₀ text))
   answers-stop number g =
-      v .left place l
-      (like (line-next ∙ ap (λ (x : StepRead). lineAnswered list state x (λ next. answersFrom (v .bound - 1) list next (drop (lineLength x) remaining))) g)
-      (nothing-written l place (v .within)))
+      ended v (line-next ∙ ap (λ (x : StepRead). lineRun list state x (λ next. runFrom (v .bound - 1) list next (drop (lineLength x) remaining))) g)
 
   module _ (good : StepLine) (g : a ≡ Good good) where
     pub answers-fits : good .length ≤ length remaining
@@ -180,7 +204,7 @@ module _ {list : RuleList} {text l₀ : List ℕ} {at : ℕ} {l : List ℕ} {sta
 
     pub answers-turn : (next : Next) → next ≡ stepOf list state (good .step)
         → {place′ : ℕ} {l′ : List ℕ} → Wrote l place (answerText (next .answer)) place′ l′ → length l′ ≡ length l
-        → Answering list text l₀ at l′ (next .state) (take (length remaining - good .length) (drop (good .length) remaining)) place′
+        → Answering list s₀ text l₀ at l′ (next .state) (take (length remaining - good .length) (drop (good .length) remaining)) place′
     answers-turn next n {place′} {l′} w k = record {
       bound = v .bound - 1;
       enough = omega (arith, answers-less, v .enough);
@@ -189,18 +213,28 @@ module _ {list : RuleList} {text l₀ : List ℕ} {at : ℕ} {l : List ℕ} {sta
       same = k ∙ v .same;
       left = λ r m z.
           v .left r m
-          (like
-          (line-next
-          ∙ ap (λ (x : StepRead). lineAnswered list state x (λ s. answersFrom (v .bound - 1) list s (drop (lineLength x) remaining))) g
-          ∙ ap (λ (x : Next). answered x (λ s. answersFrom (v .bound - 1) list s (drop (good .length) remaining))) (sym n))
-          (then (omega (arith, v .same, v .room)) w (subst (λ (u : List ℕ). Wrote l′ place′ (answersFrom (v .bound - 1) list (next .state) u) r m) (rest remaining (good .length)) z)));
+          (like (ap answersText run-on ∙ text-followed next later)
+          (then (omega (arith, v .same, v .room)) w (subst (λ (u : List ℕ). Wrote l′ place′ (answersText (runFrom (v .bound - 1) list (next .state) u)) r m) (rest remaining (good .length)) z)));
+      last =
+          ap (λ (u : List ℕ). lastState (next .state) (runFrom (v .bound - 1) list (next .state) u)) (rest remaining (good .length))
+          ∙ sym (last-followed state next later) ∙ ap (lastState state) (sym run-on) ∙ v .last;
     }
+      where
+        later : State → List Next
+        later s = runFrom (v .bound - 1) list s (drop (good .length) remaining)
 
-pub answers-end : {list : RuleList} {text l₀ : List ℕ} {at : ℕ} {l : List ℕ} {state : State} {remaining : List ℕ} {place : ℕ}
-    → Answering list text l₀ at l state remaining place → length remaining ≤ 0 → Wrote l₀ at (answersFrom (length text) list fresh text) place l
-answers-end {list} {text} {l₀} {at} {l} {state} {remaining} {place} v h = v .left place l (like (go (v .bound) remaining h) (nothing-written l place (v .within)))
+        run-on : runFrom (v .bound) list state remaining ≡ followed next later
+        run-on =
+            line-next
+            ∙ ap (λ (x : StepRead). lineRun list state x (λ s. runFrom (v .bound - 1) list s (drop (lineLength x) remaining))) g
+            ∙ ap (λ (x : Next). followed x later) (sym n)
+
+pub answers-end : {list : RuleList} {s₀ : State} {text l₀ : List ℕ} {at : ℕ} {l : List ℕ} {state : State} {remaining : List ℕ} {place : ℕ}
+    → Answering list s₀ text l₀ at l state remaining place → length remaining ≤ 0
+    → Wrote l₀ at (answersText (textRun list s₀ text)) place l × (state ≡ lastState s₀ (textRun list s₀ text))
+answers-end {list} {s₀} {text} {l₀} {at} {l} {state} {remaining} {place} v h = ended v (go (v .bound) remaining h)
   where
-    go : (bound : ℕ) (m : List ℕ) → length m ≤ 0 → answersFrom bound list state m ≡ []
-    go zero m k = unfold answersFrom in refl
-    go (suc bound) [] k = unfold answersFrom in refl
+    go : (bound : ℕ) (m : List ℕ) → length m ≤ 0 → runFrom bound list state m ≡ []
+    go zero m k = unfold runFrom in refl
+    go (suc bound) [] k = unfold runFrom in refl
     go (suc bound) (c ∷ m) k = absurd (omega arith)

@@ -8,5 +8,6 @@ pub use answers::put_bad;
 pub use lines::StepLine;
 pub use lines::StepRead;
 pub use lines::read_step;
+pub use running::Answered;
 pub use running::first_bad_step;
 pub use running::put_answers;

@@ -1,10 +1,10 @@
 // The steps of a text: every line is read before any step runs, then each step is decided and its answer written.
 ghost use mathlib.Core.Path.{_≡_};
-ghost use lib.ListN.{length};
 ghost use Rattle.forms.specs.Writing.{Wrote};
-ghost use Rattle.enforcement.specs.States.{fresh};
+ghost use Rattle.enforcement.specs.Runs.{lastState};
 ghost use Rattle.step_text.specs.Lines.{readSteps, badLine};
-ghost use Rattle.step_text.specs.Running.{answersFrom};
+ghost use Rattle.step_text.specs.Answers.{answersText};
+ghost use Rattle.step_text.specs.Running.{textRun};
 use crate::answers::put_answer;
 use crate::lines::StepLine;
 use crate::lines::StepRead;
@@ -29,24 +29,36 @@ pub fn first_bad_step(text: &[u8]) -> usize
     0
 }
 
-// The answers to the steps of a text from a fresh state, as long as its lines are steps; where they end.
-pub fn put_answers(list: RuleList, text: &[u8], out: &mut [u8], at: usize) -> usize
-    ensures { λ r. ⌜ Wrote (now (out .entry)) at (answersFrom (length (now (text .entry))) list fresh (now (text .entry))) r (now (out .exit)) ⌝ }
+// Where the answers end, and the state after the last step.
+pub struct Answered {
+    pub place: usize,
+    pub state: State,
+}
+
+// The answers to the steps of a text, from a state on and as long as its lines are steps.
+pub fn put_answers(list: RuleList, state: State, text: &[u8], out: &mut [u8], at: usize) -> Answered
+    ensures { λ r. ⌜ Wrote (now (out .entry)) at (answersText (textRun list state (now (text .entry)))) (r .place) (now (out .exit)) × (r .state ≡ lastState state (textRun list state (now (text .entry)))) ⌝ }
 {
-    let mut state = State::fresh();
+    let mut current = state;
     let mut rest = text;
     let mut place = at;
     while 0 < rest.len() {
         let StepRead::Good(good) = read_step(rest) else {
-            return place;
+            return Answered {
+                place,
+                state: current,
+            };
         };
         let step = good.step;
-        let next = state.step(list, step);
+        let next = current.step(list, step);
         let answer = next.answer;
         place = put_answer(answer, out, place);
-        state = next.state;
+        current = next.state;
         let end = good.length;
         rest = &rest[end..];
     }
-    place
+    Answered {
+        place,
+        state: current,
+    }
 }

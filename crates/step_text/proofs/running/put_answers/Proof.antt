@@ -9,16 +9,13 @@ use Rattle.step_text.proofs.running.put_answers.Statement.{statement}
 use Rattle.step_text.proofs.running.put_answers.Tie as tie
 
 abbrev Inv-loop : tie.InvT-loop
-Inv-loop list text out₀ at state₀ rest₀ place₀ out state rest place = Answering list text out₀ at out state rest place
+Inv-loop list text out₀ at state rest₀ place₀ out current rest place = Answering list state text out₀ at out current rest place
 
 abbrev μ-loop : tie.MeasureT-loop
-μ-loop list text out₀ at state₀ rest₀ place₀ out state rest place = length rest
-
-fresh-requires : tie.Need-fresh-requires Inv-loop μ-loop
-fresh-requires c κs = search needs
+μ-loop list text out₀ at state rest₀ place₀ out current rest place = length rest
 
 loop-holds : tie.Need-loop-holds Inv-loop μ-loop
-loop-holds c = answers-start _ _ _ _ _ (c .fresh .ensures) (omega arith) (omega arith)
+loop-holds c = answers-start _ _ _ _ _ (omega arith) (omega arith)
 
 read-step-requires : tie.Need-read-step-requires Inv-loop μ-loop
 read-step-requires c κs = search needs
@@ -70,7 +67,6 @@ put-answers-spec =
     (tie.spec
     Inv-loop
     μ-loop
-    fresh-requires
     loop-holds
     read-step-requires
     enum-known-good
