@@ -115,14 +115,19 @@ byte-past l i b h f = record { next = sym (capped-small (i + 1) (omega arith)); 
 pub byte-last : (l : List ℕ) (i b : ℕ) → length l ≤ i → i ≡ lastPlace → Wrote l i (b ∷ []) i l
 byte-last l i b h e = record { next = e ∙ sym (capped-large (i + 1) (omega arith)); text = sym (set-out l i b h) }
 
--- ---- a text measured in the empty part of a lent list, then refused or written
+-- ---- a text measured, then refused or written
 
+pub measure : {k x : List ℕ} {r : ℕ} {k′ : List ℕ} → length x ≤ lastPlace → Wrote k 0 x r k′ → r ≡ length x
+measure {k} {x} f w = w .next ∙ ap capped (zero-add (length x)) ∙ capped-small (length x) f
+
+-- where there is room, the text stands there, and the bytes past it stay
+pub at-front : {l x : List ℕ} {r : ℕ} {l′ : List ℕ} → length x ≤ length l → Wrote l 0 x r l′ → l′ ≡ x ++ drop (length x) l
+at-front {l} {x} n w = w .text ∙ rw zero-add at (sets-eq x l 0 (rw zero-add n))
+
+-- measured in the empty part of a lent list
 whole : (m l : List ℕ) → length m ≡ 0 → m ++ drop 0 l ≡ l
 whole [] l h = refl
 whole (a ∷ m) l h = absurd (omega arith)
-
-measure : {k x : List ℕ} {r : ℕ} {k′ : List ℕ} → length x ≤ lastPlace → Wrote k 0 x r k′ → r ≡ length x
-measure {k} {x} f w = w .next ∙ ap capped (zero-add (length x)) ∙ capped-small (length x) f
 
 pub measured : {k x : List ℕ} {r : ℕ} {k′ : List ℕ} (m l : List ℕ) → length x ≤ lastPlace → length m ≡ 0 → Wrote k 0 x r k′ → length (m ++ drop 0 l) < r
     → (Refused 18 ≡ writtenOf x l) × (m ++ drop 0 l ≡ lentAfter x l)
@@ -137,10 +142,8 @@ pub placed : {k x : List ℕ} {q : ℕ} {k′ : List ℕ} (m l : List ℕ) → l
 unfolding writtenOf lentAfter
 placed {k} {x} {q} {k′} m l f e w h {r} {l′} v =
     let b = whole m l e in
-    let n : length x ≤ length l = omega (arith, measure f w, ap length b) in (
-      rw (le-leb (length x) (length l) n, measure f v),
-      rw (le-leb (length x) (length l) n) (v .text ∙ ap (λ (u : List ℕ). sets u 0 x) b ∙ rw zero-add at (sets-eq x l 0 (rw zero-add n))),
-    )
+    let n : length x ≤ length l = omega (arith, measure f w, ap length b) in
+    (rw (le-leb (length x) (length l) n, measure f v), rw (le-leb (length x) (length l) n) (at-front n (subst (λ (u : List ℕ). Wrote u 0 x r l′) b v)))
 
 -- ---- how long a form's text is
 

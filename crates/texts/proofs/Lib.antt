@@ -1,3 +1,4 @@
 pub mod Responding
 pub mod Measuring
 pub mod Program
+pub mod SavedRunning

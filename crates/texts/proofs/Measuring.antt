@@ -1,23 +1,21 @@
 -- A response that is measured has its length, and one that fits is written as it is. Assumes nothing.
-use mathlib.Core.Path.{_≡_, sym, ap, _∙_}
+use mathlib.Core.Path.{_≡_, sym, _∙_}
 use mathlib.Core.Bool.{Bool, true, false}
 use mathlib.Core.List.{List}
 use Prim.Native.Nat.{ℕ, _≤_}
-use native.Mathlib.Nat.{zero-add}
 use native.Mathlib.Omega.{arith}
 use lib.ListN.{length}
-use lib.Seq.{sets-eq}
 use lib.Dec.{leb}
 use borrow.Author.Tests.{le-leb, leb-true}
-use Rattle.forms.specs.Writing.{capped, Wrote, writtenOf, lentAfter}
+use Rattle.forms.specs.Writing.{Wrote, writtenOf, lentAfter}
 use Rattle.forms.specs.declared.writing.Written.the-variants.{Length, Refused}
-use Rattle.forms.proofs.Puts.{capped-small}
+use Rattle.forms.proofs.Puts.{measure, at-front}
 use Rattle.texts.specs.Response.{responseOf}
 use Rattle.texts.proofs.Responding.{response-short}
 
 module _ (input : List ℕ) where
   pub measured : {l l′ : List ℕ} {r : ℕ} → Wrote l 0 (responseOf input) r l′ → r ≡ length (responseOf input)
-  measured w = w .next ∙ ap capped (zero-add (length (responseOf input))) ∙ capped-small (length (responseOf input)) (omega (arith, response-short input))
+  measured w = measure (omega (arith, response-short input)) w
 
   pub room-enough : (room : ℕ) → 131072 ≤ room → true ≡ leb (length (responseOf input)) room
   room-enough room h = sym (le-leb (length (responseOf input)) room (omega (arith, response-short input)))
@@ -31,4 +29,4 @@ module _ (input : List ℕ) where
     unfolding writtenOf lentAfter
     written t {r} {l′} w =
         let room : length (responseOf input) ≤ length l = leb-true _ _ (sym e ∙ t) in
-        (rw (← e, t, measured w), rw (← e, t) (w .text ∙ rw zero-add at (sets-eq (responseOf input) l 0 (rw zero-add room))))
+        (rw (← e, t, measured w), rw (← e, t) (at-front room w))

@@ -18,6 +18,7 @@ use Rattle.forms.proofs.Turns.{rest}
 use Rattle.rules.specs.declared.lists.RuleList.{RuleList}
 use Rattle.enforcement.specs.States.{fresh}
 use Rattle.enforcement.specs.Gate.{runOf}
+use Rattle.enforcement.specs.declared.states.State.{State}
 use Rattle.enforcement.proofs.Kept.{fresh-accepted}
 use Rattle.rule_text.specs.Causes.{Cause, no-form, out-of-range, not-next, same-twice, unsound}
 use Rattle.rule_text.specs.Reading.{LinesRead, readLines, listOf, prefixOf}
@@ -26,7 +27,7 @@ use Rattle.rule_text.specs.declared.reading.Prefix.{Prefix}
 use Rattle.rule_text.proofs.Lists.{Reads, reads-lines}
 use Rattle.step_text.specs.Lines.{StepsRead, steps, bad, readSteps, badLine}
 use Rattle.step_text.specs.Answers.{badText, answersText}
-use Rattle.step_text.specs.Running.{answersFrom}
+use Rattle.step_text.specs.Running.{textRun}
 use Rattle.step_text.proofs.Runs.{Runs, answers-run, Positive, positive}
 use Rattle.step_text.proofs.Sizes.{Sized, sized, answers-short, bad-short}
 use Rattle.texts.specs.Response.{stepsForm, startsSteps, Outcome, badAt, ran, stepsOutcome, numberOf, afterRules, outcomeOf, outcomeText, responseOf}
@@ -59,12 +60,13 @@ starts-room text h =
 -- ---- the steps
 
 module _ (list : RuleList) (line : ℕ) (text : List ℕ) (b : ℕ) (e : b ≡ badLine (readSteps 1 text)) where
-  pub steps-answered : b ≡ 0 → outcomeText (stepsOutcome list line (readSteps 1 text)) ≡ answersFrom (length text) list fresh text
+  pub steps-answered : (s : State) → s ≡ fresh → b ≡ 0 → outcomeText (stepsOutcome list line (readSteps 1 text)) ≡ answersText (textRun list s text)
   unfolding stepsOutcome outcomeText
-  steps-answered z = go (readSteps 1 text) (answers-run 1 list fresh text) (positive text) (sym e ∙ z)
+  steps-answered s f z =
+      go (readSteps 1 text) (answers-run 1 list fresh text) (positive text) (sym e ∙ z) ∙ ap (λ (x : State). answersText (textRun list x text)) (sym f)
     where
-      go : (r : StepsRead) → Runs list fresh (answersFrom (length text) list fresh text) r → Positive r → badLine r ≡ 0 → outcomeText (stepsOutcome list line r) ≡ answersFrom (length text) list fresh text
-      go (steps read) runs p q = sym runs
+      go : (r : StepsRead) → Runs list fresh (textRun list fresh text) r → Positive r → badLine r ≡ 0 → outcomeText (stepsOutcome list line r) ≡ answersText (textRun list fresh text)
+      go (steps read) runs p q = ap answersText (sym runs)
       go (bad k) runs p q = absurd (omega arith)
 
   pub steps-refused : (b ≡ 0 → ⊥) → outcomeText (stepsOutcome list line (readSteps 1 text)) ≡ badText 10 (line + b)

@@ -1,8 +1,8 @@
--- `texts::number_of` meets its contract. Assumes nothing.
+-- `texts::responses::number_of` meets its contract. Assumes nothing.
 use borrow.Author.Tests.{eq-eqb, ne-eqb}
 use Rattle.texts.specs.Response.{numberOf}
-use Rattle.texts.proofs.number_of.Statement.{statement}
-use Rattle.texts.proofs.number_of.Tie as tie
+use Rattle.texts.proofs.responses.number_of.Statement.{statement}
+use Rattle.texts.proofs.responses.number_of.Tie as tie
 
 returns : tie.Need-returns
 unfolding numberOf

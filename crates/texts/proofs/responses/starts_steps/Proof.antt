@@ -1,11 +1,11 @@
--- `texts::starts_steps` meets its contract. Assumes nothing.
+-- `texts::responses::starts_steps` meets its contract. Assumes nothing.
 use mathlib.Core.Path.{_≡_, ap}
 use lib.Dec.{eqb}
 use Rattle.forms.specs.declared.tables.Found.{Found}
 use Rattle.texts.specs.Response.{stepsForm, startsSteps}
 use borrow.Author.Needs.{needs}
-use Rattle.texts.proofs.starts_steps.Statement.{statement}
-use Rattle.texts.proofs.starts_steps.Tie as tie
+use Rattle.texts.proofs.responses.starts_steps.Statement.{statement}
+use Rattle.texts.proofs.responses.starts_steps.Tie as tie
 
 slice-aggregate-find : tie.Need-slice-aggregate-find
 slice-aggregate-find c = search needs

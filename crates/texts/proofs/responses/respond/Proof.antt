@@ -1,9 +1,9 @@
--- `texts::respond` meets its contract. Assumes nothing.
+-- `texts::responses::respond` meets its contract. Assumes nothing.
 use borrow.Author.Tests.{not-true, not-false}
 use Rattle.texts.proofs.Measuring.{refused, written}
 use borrow.Author.Needs.{needs}
-use Rattle.texts.proofs.respond.Statement.{statement}
-use Rattle.texts.proofs.respond.Tie as tie
+use Rattle.texts.proofs.responses.respond.Statement.{statement}
+use Rattle.texts.proofs.responses.respond.Tie as tie
 
 fits-requires : tie.Need-fits-requires
 fits-requires c κs = search needs

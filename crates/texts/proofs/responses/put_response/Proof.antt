@@ -1,4 +1,4 @@
--- `texts::put_response` meets its contract. Assumes nothing.
+-- `texts::responses::put_response` meets its contract. Assumes nothing.
 use mathlib.Core.Path.{_≡_, refl, sym, _∙_}
 use mathlib.Core.List.{List}
 use Prim.Native.Nat.{ℕ, _-_, _≤_}
@@ -9,8 +9,8 @@ use Rattle.forms.proofs.Puts.{like}
 use Rattle.forms.proofs.Turns.{rest}
 use Rattle.texts.proofs.Responding.{starts-room, lines-few, prefix-line, prefix-within, too-long, response-without, response-with}
 use borrow.Author.Needs.{needs}
-use Rattle.texts.proofs.put_response.Statement.{statement}
-use Rattle.texts.proofs.put_response.Tie as tie
+use Rattle.texts.proofs.responses.put_response.Statement.{statement}
+use Rattle.texts.proofs.responses.put_response.Tie as tie
 
 -- what is left of a short input is short
 short : (input : List ℕ) (n : ℕ) → length input ≤ 65536

@@ -1,11 +1,11 @@
--- `texts::fits` meets its contract. Assumes nothing.
+-- `texts::responses::fits` meets its contract. Assumes nothing.
 use mathlib.Core.Path.{ap}
 use Prim.Native.Nat.{ℕ}
 use lib.Dec.{leb}
 use Rattle.texts.proofs.Measuring.{measured, room-enough}
 use borrow.Author.Needs.{needs}
-use Rattle.texts.proofs.fits.Statement.{statement}
-use Rattle.texts.proofs.fits.Tie as tie
+use Rattle.texts.proofs.responses.fits.Statement.{statement}
+use Rattle.texts.proofs.responses.fits.Tie as tie
 
 returns : tie.Need-returns
 returns c = room-enough _ _ (c .if1 .taken)

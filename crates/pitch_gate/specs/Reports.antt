@@ -1,0 +1,59 @@
+-- What a C function returns, what it fills in, and what it leaves in a lent space. Assumes nothing.
+use Prim.Native.Nat.{ℕ}
+use mathlib.Core.Path.{_≡_}
+use mathlib.Core.Bool.{cond}
+use mathlib.Core.List.{List, [], _∷_}
+use lib.ListN.{length}
+use lib.Dec.{eqb}
+use Rattle.forms.specs.declared.writing.Written.{Written}
+use Rattle.forms.specs.declared.writing.Written.the-variants.{Length, Refused}
+use Rattle.rule_text.specs.Reading.{readLines, loadedOf}
+use Rattle.rule_text.specs.declared.reading.LoadedRules.{LoadedRules}
+use Rattle.texts.specs.SavedRuns.{Texts, holding, refusedIn, refusedReport, writtenReport, lentTo, SavedOutcome, answersOf, stateOf, runReport}
+use Rattle.texts.specs.declared.saved_runs.Part.{Part}
+use Rattle.texts.specs.declared.saved_runs.Part.the-variants as part
+use Rattle.texts.specs.declared.saved_runs.Report.{Report}
+
+-- ---- a report as numbers
+
+unfoldable pub partNumber : Part → ℕ
+partNumber part.Nothing = 0
+partNumber part.Rules = 1
+partNumber part.State = 2
+partNumber part.Steps = 3
+partNumber part.AnswersSpace = 4
+partNumber part.StateSpace = 5
+
+-- the number is returned, the rest fills the four lent numbers
+pub record Told (report : Report) (number : ℕ) (numbers : List ℕ) : Type 0 where
+  pub returned : number ≡ report .number
+  pub filled : numbers ≡ partNumber (report .part) ∷ report .place ∷ report .answers ∷ report .state ∷ []
+
+-- and a text is in a lent space, or every byte of it is as it was
+pub record Given (report : Report) (text lent : List ℕ) (number : ℕ) (lent′ numbers : List ℕ) : Type 0 where
+  pub told : Told report number numbers
+  pub left : lent′ ≡ lentTo report text lent
+
+-- the same for the answers to steps and the state after them
+pub record Handed (outcome : SavedOutcome) (answers next : List ℕ) (number : ℕ) (answers′ next′ numbers : List ℕ) : Type 0 where
+  pub told : Told (runReport outcome (length answers) (length next)) number numbers
+  pub answered : answers′ ≡ lentTo (runReport outcome (length answers) (length next)) (answersOf outcome) answers
+  pub saved : next′ ≡ lentTo (runReport outcome (length answers) (length next)) (stateOf outcome) next
+
+-- ---- what is reported
+
+-- a response that was written, or its 18
+abbrev pub responseReport : Written → Report
+responseReport (Length n) = writtenReport n 0
+responseReport (Refused number) = refusedReport part.AnswersSpace number 0
+
+-- a text that was read, or its refusal
+abbrev pub readReport : Part → ℕ → ℕ → Report
+readReport text number place = cond (eqb number 0) (writtenReport 0 0) (refusedReport text number place)
+
+abbrev pub rulesReport : LoadedRules → Report
+rulesReport read = readReport part.Rules (read .number) (read .line)
+
+unfoldable pub textsReport : Texts → Report
+textsReport (holding list s) = writtenReport 0 0
+textsReport (refusedIn text number place) = refusedReport text number place

@@ -1,0 +1,147 @@
+// The gate for a controller: thin C functions on byte slices over the crate `texts`. Each returns the number of the refusal, 0 for none,
+// and fills four lent numbers: which text or space the number is about, its place there, and the bytes of answers and of state written.
+// On a refusal every byte of a lent space stays.
+ghost use mathlib.Core.Path.{_≡_};
+ghost use lib.ListN.{length};
+ghost use Rattle.forms.specs.Writing.{writtenOf};
+ghost use Rattle.enforcement.specs.States.{fresh};
+ghost use Rattle.rule_text.specs.Reading.{readLines, loadedOf};
+ghost use Rattle.state_text.specs.Saving.{savedText};
+ghost use Rattle.texts.specs.Response.{responseOf};
+ghost use Rattle.texts.specs.SavedRuns.{loadTexts, refusedReport, writtenReport, savedReport, stateIn, copyReport, savedOutcome};
+ghost use Rattle.pitch_gate.specs.Reports.{partNumber, Told, Given, Handed, responseReport, readReport, rulesReport, textsReport};
+use forms::Written;
+use texts::Part;
+use texts::Report;
+
+// The program `gate` as a function: rules, `(steps)` and steps in, its whole output out.
+#[no_mangle]
+pub extern "C" fn pitch_gate_respond(input: &[u8], output: &mut [u8], report: &mut [u64; 4]) -> u64
+    ensures { λ r. ⌜ Given (responseReport (writtenOf (responseOf (now (input .entry))) (now (output .entry)))) (responseOf (now (input .entry))) (now (output .entry)) r (now (output .exit)) (now (report .exit)) ⌝ }
+{
+    tell(response_report(texts::respond(input, output)), report)
+}
+
+// A rule list: 0, or 10 to 14 with the line.
+#[no_mangle]
+pub extern "C" fn pitch_gate_check_rules(rules: &[u8], report: &mut [u64; 4]) -> u64
+    ensures { λ r. ⌜ Told (rulesReport (loadedOf (readLines (now (rules .entry))))) r (now (report .exit)) ⌝ }
+{
+    let read = rule_text::read_rules(rules);
+    tell(read_report(Part::Rules, read.number, read.line), report)
+}
+
+// A rule list, then a saved state under it: 0, or the text that is refused.
+#[no_mangle]
+pub extern "C" fn pitch_gate_check_state(rules: &[u8], state: &[u8], report: &mut [u64; 4]) -> u64
+    ensures { λ r. ⌜ Told (textsReport (loadTexts (now (rules .entry)) (now (state .entry)))) r (now (report .exit)) ⌝ }
+{
+    let read = texts::load(rules, state);
+    let part = read.part;
+    tell(read_report(part, read.number, read.place), report)
+}
+
+// A saved state, read under the rules and written again.
+#[no_mangle]
+pub extern "C" fn pitch_gate_copy_state(
+    rules: &[u8],
+    state: &[u8],
+    copy: &mut [u8],
+    report: &mut [u64; 4],
+) -> u64
+    ensures { λ r. ⌜ Given (copyReport (loadTexts (now (rules .entry)) (now (state .entry))) (length (now (copy .entry)))) (stateIn (loadTexts (now (rules .entry)) (now (state .entry)))) (now (copy .entry)) r (now (copy .exit)) (now (report .exit)) ⌝ }
+{
+    tell(texts::copy_state(rules, state, copy), report)
+}
+
+// The saved state that a first run starts from.
+#[no_mangle]
+pub extern "C" fn pitch_gate_fresh_state(state: &mut [u8], report: &mut [u64; 4]) -> u64
+    ensures { λ r. ⌜ Given (savedReport (savedText fresh) (length (now (state .entry)))) (savedText fresh) (now (state .entry)) r (now (state .exit)) (now (report .exit)) ⌝ }
+{
+    tell(texts::fresh_state(state), report)
+}
+
+// Steps over a saved state: rules, saved state and steps in, the answers and the new saved state out.
+#[no_mangle]
+pub extern "C" fn pitch_gate_run_steps(
+    rules: &[u8],
+    state: &[u8],
+    steps: &[u8],
+    answers: &mut [u8],
+    next: &mut [u8],
+    report: &mut [u64; 4],
+) -> u64
+    ensures { λ r. ⌜ Handed (savedOutcome (now (rules .entry)) (now (state .entry)) (now (steps .entry))) (now (answers .entry)) (now (next .entry)) r (now (answers .exit)) (now (next .exit)) (now (report .exit)) ⌝ }
+{
+    tell(texts::run_saved(rules, state, steps, answers, next), report)
+}
+
+// ---- reports
+
+fn response_report(written: Written) -> Report
+    ensures { λ r. ⌜ r ≡ responseReport written ⌝ }
+{
+    match written {
+        Written::Length(length) => written_report(length),
+        Written::Refused(number) => refused_report(Part::AnswersSpace, number, 0),
+    }
+}
+
+fn read_report(part: Part, number: u64, place: usize) -> Report
+    ensures { λ r. ⌜ r ≡ readReport part number place ⌝ }
+{
+    if number == 0 {
+        return written_report(0);
+    }
+    refused_report(part, number, place)
+}
+
+fn written_report(answers: usize) -> Report
+    ensures { λ r. ⌜ r ≡ writtenReport answers 0 ⌝ }
+{
+    Report {
+        part: Part::Nothing,
+        number: 0,
+        place: 0,
+        answers,
+        state: 0,
+    }
+}
+
+fn refused_report(part: Part, number: u64, place: usize) -> Report
+    ensures { λ r. ⌜ r ≡ refusedReport part number place ⌝ }
+{
+    Report {
+        part,
+        number,
+        place,
+        answers: 0,
+        state: 0,
+    }
+}
+
+// The number is returned, the rest goes to the four lent numbers.
+fn tell(told: Report, report: &mut [u64; 4]) -> u64
+    ensures { λ r. ⌜ Told told r (now (report .exit)) ⌝ }
+{
+    let part = told.part;
+    report[0] = part_number(part);
+    report[1] = told.place as u64;
+    report[2] = told.answers as u64;
+    report[3] = told.state as u64;
+    told.number
+}
+
+fn part_number(part: Part) -> u64
+    ensures { λ r. ⌜ r ≡ partNumber part ⌝ }
+{
+    match part {
+        Part::Nothing => 0,
+        Part::Rules => 1,
+        Part::State => 2,
+        Part::Steps => 3,
+        Part::AnswersSpace => 4,
+        Part::StateSpace => 5,
+    }
+}
