@@ -4,6 +4,7 @@ use mathlib.Core.Path.{_≡_}
 use mathlib.Core.Bool.{cond}
 use mathlib.Core.List.{List, [], _∷_}
 use lib.ListN.{length}
+use lib.Seq.{sets}
 use lib.Dec.{eqb}
 use Rattle.forms.specs.declared.writing.Written.{Written}
 use Rattle.forms.specs.declared.writing.Written.the-variants.{Length, Refused}
@@ -24,19 +25,19 @@ partNumber part.Steps = 3
 partNumber part.AnswersSpace = 4
 partNumber part.StateSpace = 5
 
--- the number is returned, the rest fills the four lent numbers
-pub record Told (report : Report) (number : ℕ) (numbers : List ℕ) : Type 0 where
+-- the number is returned, the rest is written to the four lent numbers, from the first on
+pub record Told (report : Report) (number : ℕ) (numbers numbers′ : List ℕ) : Type 0 where
   pub returned : number ≡ report .number
-  pub filled : numbers ≡ partNumber (report .part) ∷ report .place ∷ report .answers ∷ report .state ∷ []
+  pub filled : numbers′ ≡ sets numbers 0 (partNumber (report .part) ∷ report .place ∷ report .answers ∷ report .state ∷ [])
 
 -- and a text is in a lent space, or every byte of it is as it was
-pub record Given (report : Report) (text lent : List ℕ) (number : ℕ) (lent′ numbers : List ℕ) : Type 0 where
-  pub told : Told report number numbers
+pub record Given (report : Report) (text lent : List ℕ) (number : ℕ) (numbers lent′ numbers′ : List ℕ) : Type 0 where
+  pub told : Told report number numbers numbers′
   pub left : lent′ ≡ lentTo report text lent
 
 -- the same for the answers to steps and the state after them
-pub record Handed (outcome : SavedOutcome) (answers next : List ℕ) (number : ℕ) (answers′ next′ numbers : List ℕ) : Type 0 where
-  pub told : Told (runReport outcome (length answers) (length next)) number numbers
+pub record Handed (outcome : SavedOutcome) (answers next : List ℕ) (number : ℕ) (numbers answers′ next′ numbers′ : List ℕ) : Type 0 where
+  pub told : Told (runReport outcome (length answers) (length next)) number numbers numbers′
   pub answered : answers′ ≡ lentTo (runReport outcome (length answers) (length next)) (answersOf outcome) answers
   pub saved : next′ ≡ lentTo (runReport outcome (length answers) (length next)) (stateOf outcome) next
 

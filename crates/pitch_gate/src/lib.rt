@@ -17,7 +17,7 @@ use texts::Report;
 // The program `gate` as a function: rules, `(steps)` and steps in, its whole output out.
 #[no_mangle]
 pub extern "C" fn pitch_gate_respond(input: &[u8], output: &mut [u8], report: &mut [u64; 4]) -> u64
-    ensures { λ r. ⌜ Given (responseReport (writtenOf (responseOf (now (input .entry))) (now (output .entry)))) (responseOf (now (input .entry))) (now (output .entry)) r (now (output .exit)) (now (report .exit)) ⌝ }
+    ensures { λ r. ⌜ Given (responseReport (writtenOf (responseOf (now (input .entry))) (now (output .entry)))) (responseOf (now (input .entry))) (now (output .entry)) r (now (report .entry)) (now (output .exit)) (now (report .exit)) ⌝ }
 {
     tell(response_report(texts::respond(input, output)), report)
 }
@@ -25,7 +25,7 @@ pub extern "C" fn pitch_gate_respond(input: &[u8], output: &mut [u8], report: &m
 // A rule list: 0, or 10 to 14 with the line.
 #[no_mangle]
 pub extern "C" fn pitch_gate_check_rules(rules: &[u8], report: &mut [u64; 4]) -> u64
-    ensures { λ r. ⌜ Told (rulesReport (loadedOf (readLines (now (rules .entry))))) r (now (report .exit)) ⌝ }
+    ensures { λ r. ⌜ Told (rulesReport (loadedOf (readLines (now (rules .entry))))) r (now (report .entry)) (now (report .exit)) ⌝ }
 {
     let read = rule_text::read_rules(rules);
     tell(read_report(Part::Rules, read.number, read.line), report)
@@ -34,7 +34,7 @@ pub extern "C" fn pitch_gate_check_rules(rules: &[u8], report: &mut [u64; 4]) ->
 // A rule list, then a saved state under it: 0, or the text that is refused.
 #[no_mangle]
 pub extern "C" fn pitch_gate_check_state(rules: &[u8], state: &[u8], report: &mut [u64; 4]) -> u64
-    ensures { λ r. ⌜ Told (textsReport (loadTexts (now (rules .entry)) (now (state .entry)))) r (now (report .exit)) ⌝ }
+    ensures { λ r. ⌜ Told (textsReport (loadTexts (now (rules .entry)) (now (state .entry)))) r (now (report .entry)) (now (report .exit)) ⌝ }
 {
     let read = texts::load(rules, state);
     let part = read.part;
@@ -49,7 +49,7 @@ pub extern "C" fn pitch_gate_copy_state(
     copy: &mut [u8],
     report: &mut [u64; 4],
 ) -> u64
-    ensures { λ r. ⌜ Given (copyReport (loadTexts (now (rules .entry)) (now (state .entry))) (length (now (copy .entry)))) (stateIn (loadTexts (now (rules .entry)) (now (state .entry)))) (now (copy .entry)) r (now (copy .exit)) (now (report .exit)) ⌝ }
+    ensures { λ r. ⌜ Given (copyReport (loadTexts (now (rules .entry)) (now (state .entry))) (length (now (copy .entry)))) (stateIn (loadTexts (now (rules .entry)) (now (state .entry)))) (now (copy .entry)) r (now (report .entry)) (now (copy .exit)) (now (report .exit)) ⌝ }
 {
     tell(texts::copy_state(rules, state, copy), report)
 }
@@ -57,7 +57,7 @@ pub extern "C" fn pitch_gate_copy_state(
 // The saved state that a first run starts from.
 #[no_mangle]
 pub extern "C" fn pitch_gate_fresh_state(state: &mut [u8], report: &mut [u64; 4]) -> u64
-    ensures { λ r. ⌜ Given (savedReport (savedText fresh) (length (now (state .entry)))) (savedText fresh) (now (state .entry)) r (now (state .exit)) (now (report .exit)) ⌝ }
+    ensures { λ r. ⌜ Given (savedReport (savedText fresh) (length (now (state .entry)))) (savedText fresh) (now (state .entry)) r (now (report .entry)) (now (state .exit)) (now (report .exit)) ⌝ }
 {
     tell(texts::fresh_state(state), report)
 }
@@ -72,7 +72,7 @@ pub extern "C" fn pitch_gate_run_steps(
     next: &mut [u8],
     report: &mut [u64; 4],
 ) -> u64
-    ensures { λ r. ⌜ Handed (savedOutcome (now (rules .entry)) (now (state .entry)) (now (steps .entry))) (now (answers .entry)) (now (next .entry)) r (now (answers .exit)) (now (next .exit)) (now (report .exit)) ⌝ }
+    ensures { λ r. ⌜ Handed (savedOutcome (now (rules .entry)) (now (state .entry)) (now (steps .entry))) (now (answers .entry)) (now (next .entry)) r (now (report .entry)) (now (answers .exit)) (now (next .exit)) (now (report .exit)) ⌝ }
 {
     tell(texts::run_saved(rules, state, steps, answers, next), report)
 }
@@ -123,7 +123,7 @@ fn refused_report(part: Part, number: u64, place: usize) -> Report
 
 // The number is returned, the rest goes to the four lent numbers.
 fn tell(told: Report, report: &mut [u64; 4]) -> u64
-    ensures { λ r. ⌜ Told told r (now (report .exit)) ⌝ }
+    ensures { λ r. ⌜ Told told r (now (report .entry)) (now (report .exit)) ⌝ }
 {
     let part = told.part;
     report[0] = part_number(part);

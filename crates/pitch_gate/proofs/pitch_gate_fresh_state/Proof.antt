@@ -1,0 +1,21 @@
+-- `pitch_gate::pitch_gate_fresh_state` meets its contract. Assumes nothing.
+use Rattle.pitch_gate.proofs.Telling.{given}
+use borrow.Author.Needs.{needs}
+use Rattle.pitch_gate.proofs.pitch_gate_fresh_state.Statement.{statement}
+use Rattle.pitch_gate.proofs.pitch_gate_fresh_state.Tie as tie
+
+fresh-state-requires : tie.Need-fresh-state-requires
+fresh-state-requires c κs = search needs
+
+tell-requires : tie.Need-tell-requires
+tell-requires c κs = search needs
+
+same-length : tie.Need-same-length
+same-length c = search needs
+
+returns : tie.Need-returns
+returns c = given (c .before .before .before .before .fresh-state .ensures) (c .tell .ensures)
+
+pub pitch-gate-fresh-state-spec : {M : Type 1} → statement M
+pitch-gate-fresh-state-spec =
+    tie.close (tie.spec fresh-state-requires tell-requires same-length returns)
