@@ -62,11 +62,9 @@ enum pitch_gate_number {
     PITCH_GATE_WITHOUT_OPEN = 16,        /* place or active without its open, or role not assigned */
     PITCH_GATE_STATE_BREAKS_RULE = 17,   /* saved state breaks a rule */
     PITCH_GATE_SPACE_TOO_SHORT = 18,     /* lent space shorter than the text or answers */
+    PITCH_GATE_INPUT_TOO_LONG = 19,      /* program input too long; in pitch_gate_run_steps, steps too long */
 
-    /* printed only: by pitch_gate_respond in its line `(bad number line)` (as are 10 to 14) .. */
-    PITCH_GATE_INPUT_TOO_LONG = 19, /* program input too long */
-
-    /* .. and in the answer to a step, `(no number rule selected)` */
+    /* never returned: in the answer to a step, `(no number rule selected)` */
     PITCH_GATE_STEP_OUT_OF_RANGE = 20, /* step's number, its kind's included, outside its range */
     PITCH_GATE_TIME_PAST = 21,         /* t before the present time */
     PITCH_GATE_SESSION_OPEN = 22,      /* session open */
@@ -79,14 +77,18 @@ enum pitch_gate_number {
     PITCH_GATE_RULE_BROKEN = 30        /* a rule broken in the target */
 };
 
+/* The most bytes that are read: the input of pitch_gate_respond, the steps of pitch_gate_run_steps. Rule lists and saved
+ * states have no limit of their own. */
+#define PITCH_GATE_INPUT_MOST 65536
+
 /* Spaces that are always long enough, in bytes. */
-#define PITCH_GATE_OUTPUT_MOST 131072 /* the output of pitch_gate_respond */
+#define PITCH_GATE_OUTPUT_MOST 131072 /* the output of pitch_gate_respond, the answers of pitch_gate_run_steps */
 #define PITCH_GATE_ANSWER_MOST 16     /* the answer to one step: `(no 30 128 128)` and its line feed */
 #define PITCH_GATE_STATE_MOST 997501  /* a saved state: every line of its forms, with the longest time, users and positions */
 
 /* The program `gate` as a function. Reads rules, `(steps)` and steps, runs the steps from a fresh state and writes what the
  * program prints: an answer line for each step, or only `(bad number line)`. A bad input is no refusal of the call: its line
- * is the output. An input above 65,536 bytes is 19.
+ * is the output; so is `(bad 19 0)` for an input above PITCH_GATE_INPUT_MOST bytes.
  * Returns 0; or 18 where the output is longer than the space (with PITCH_GATE_OUTPUT_MOST bytes never). */
 uint64_t pitch_gate_respond(const uint8_t *input, size_t input_length, uint8_t *output, size_t output_length,
                             uint64_t *report);
@@ -109,9 +111,10 @@ uint64_t pitch_gate_fresh_state(uint8_t *state, size_t state_length, uint64_t *r
 
 /* Reads a rule list, a saved state and steps, runs the steps from that state, and writes an answer line for each step,
  * `(yes selected ended)` or `(no number rule selected)`, and the saved state after the last.
- * Returns 0; or, in this order, what pitch_gate_check_state returns; 10 of the steps with the first bad line; 18 where the
- * space for the answers is too short; 18 where the space for the state is. A step that is answered `no` is no refusal of
- * the call. */
+ * Returns 0; or, in this order, 19 where the steps are above PITCH_GATE_INPUT_MOST bytes; what pitch_gate_check_state
+ * returns; 10 of the steps with the first bad line; 18 where the space for the answers is too short (with
+ * PITCH_GATE_OUTPUT_MOST bytes never); 18 where the space for the state is (with PITCH_GATE_STATE_MOST bytes never).
+ * A step that is answered `no` is no refusal of the call. */
 uint64_t pitch_gate_run_steps(const uint8_t *rules, size_t rules_length, const uint8_t *state, size_t state_length,
                               const uint8_t *steps, size_t steps_length, uint8_t *answers, size_t answers_length,
                               uint8_t *next, size_t next_length, uint64_t *report);

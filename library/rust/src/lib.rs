@@ -20,7 +20,7 @@ mod refusal;
 mod room;
 
 pub use refusal::{cause, Refusal, Text};
-pub use room::{ANSWER_MOST, OUTPUT_MOST, STATE_MOST};
+pub use room::{ANSWER_MOST, INPUT_MOST, OUTPUT_MOST, STATE_MOST};
 
 use raw::Report;
 
@@ -42,9 +42,10 @@ pub struct Lengths {
 ///
 /// A step answered `(no number rule selected)` is no refusal of the call.
 ///
-/// Refused, in this order: the rule list (10 to 14), the saved state (10, 11, 15, 16; then 17), the steps (10).
+/// Refused, in this order: steps above [`INPUT_MOST`] bytes (19), the rule list (10 to 14), the saved state (10, 11, 15, 16; then
+/// 17), the steps (10).
 pub fn run_steps(rules: &[u8], state: &[u8], steps: &[u8]) -> Result<Ran, Refusal> {
-    let mut answers = vec![0; room::for_answers(steps)];
+    let mut answers = vec![0; OUTPUT_MOST];
     let mut next = vec![0; STATE_MOST];
     let lengths = run_steps_into(rules, state, steps, &mut answers, &mut next)?;
     Ok(Ran { answers: cut(answers, lengths.answers), state: cut(next, lengths.state) })
@@ -52,7 +53,8 @@ pub fn run_steps(rules: &[u8], state: &[u8], steps: &[u8]) -> Result<Ran, Refusa
 
 /// As [`run_steps`], into lent spaces: the answers into `answers`, the saved state into `next`.
 ///
-/// Refused after all that [`run_steps`] refuses: `answers` too short (18), then `next` too short (18).
+/// Refused after all that [`run_steps`] refuses: `answers` too short (18; with [`OUTPUT_MOST`] bytes never), then `next` too short
+/// (18; with [`STATE_MOST`] bytes never).
 pub fn run_steps_into(
     rules: &[u8],
     state: &[u8],

@@ -6,7 +6,7 @@ use std::fmt;
 /// Why a call did nothing. Every lent byte is as it was.
 #[derive(Clone, Copy, Debug, PartialEq, Eq)]
 pub struct Refusal {
-    /// Document 01's number, 10 to 18.
+    /// Document 01's number, 10 to 19.
     pub number: u64,
     pub text: Text,
     /// The line of that text, from 1; for 17 the rule; 0 where there is none.

@@ -1,7 +1,12 @@
 //! Spaces that are always long enough, from the lengths of document 01's forms.
 
-/// Bytes that hold any output of [`respond`](crate::respond).
+/// The most bytes that are read of an input of [`respond`](crate::respond) and of steps.
+pub const INPUT_MOST: usize = 65_536;
+
+/// Bytes that hold any output of [`respond`](crate::respond) and the answers to any steps: the shortest step, `(lost 0)`, has 9
+/// bytes with its line feed.
 pub const OUTPUT_MOST: usize = 131_072;
+const _: () = assert!(INPUT_MOST / "(lost 0)\n".len() * ANSWER_MOST <= OUTPUT_MOST);
 
 /// Bytes that hold any one answer. The longest is `(no 30 128 128)`: a list has at most 128 rules. A granted one is shorter:
 /// at most 32 times 32 pairs end, `(yes 128 1024)`.
@@ -25,12 +30,6 @@ const ROLES: usize = 32;
 const PERMISSIONS: usize = 32;
 const SESSIONS: usize = 32;
 const OBJECTS: usize = 32;
-
-/// Bytes that hold the answers to `steps`: steps that are read are a line each, and each line has one line feed. Steps that
-/// are not read (10) are refused before the space is looked at.
-pub(crate) fn for_answers(steps: &[u8]) -> usize {
-    ANSWER_MOST * steps.iter().filter(|byte| **byte == b'\n').count()
-}
 
 /// The bytes of a form's lines, one for each choice of a number below each of `counts`; the form is given without them.
 const fn every(form: &str, counts: &[usize]) -> usize {
