@@ -78,14 +78,15 @@ impl fmt::Display for Text {
     }
 }
 
-/// For people: `refused with 13 at line 2 of the rule list: same role or permission twice in a rule`.
+/// For people: `refused with 13 in the rule list, line 2: same role or permission twice in a rule`.
 impl fmt::Display for Refusal {
     fn fmt(&self, formatter: &mut fmt::Formatter<'_>) -> fmt::Result {
         let Refusal { number, text, place } = self;
+        write!(formatter, "refused with {number} in {text}")?;
         match (number, place) {
-            (17, rule) => write!(formatter, "refused with 17 of {text} at rule {rule}")?,
-            (_, 0) => write!(formatter, "refused with {number} of {text}")?,
-            (_, line) => write!(formatter, "refused with {number} at line {line} of {text}")?,
+            (_, 0) => {}
+            (17, rule) => write!(formatter, ", rule {rule}")?,
+            (_, line) => write!(formatter, ", line {line}")?,
         }
         match cause(*number) {
             Some(cause) => write!(formatter, ": {cause}"),
