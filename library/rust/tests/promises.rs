@@ -268,3 +268,17 @@ fn each_number_has_its_own_cause() {
     assert!(causes.iter().all(|one| causes.iter().filter(|other| *other == one).count() == 1));
     assert_eq!((cause(0), cause(29), cause(40)), (None, None, None));
 }
+
+/// library/include/pitch_gate.h has the same causes and sizes.
+#[test]
+fn the_header_says_the_same() {
+    let header = include_str!("../../include/pitch_gate.h");
+    let names = |number: u64, cause: &str| {
+        header.lines().any(|line| line.contains(&format!(" = {number}")) && line.contains(&format!("/* {cause}")))
+    };
+    assert!((0..100).all(|number| cause(number).is_none_or(|cause| names(number, cause))));
+    for (name, bytes) in [("INPUT", INPUT_MOST), ("OUTPUT", OUTPUT_MOST), ("ANSWER", ANSWER_MOST), ("STATE", STATE_MOST)] {
+        let define = format!("#define PITCH_GATE_{name}_MOST {bytes}");
+        assert!(header.lines().any(|line| line.split(" /*").next().map(str::trim_end) == Some(&define)), "{define}");
+    }
+}
