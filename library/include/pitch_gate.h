@@ -2,7 +2,8 @@
  *
  * Every text is document 01's: one form a line, a line feed after each. Every call is a function of the bytes that it is
  * lent and of nothing else: no heap, no threads, no global state, no input or output. Two calls on different bytes may run
- * at the same time.
+ * at the same time. From outside the library calls nothing but memcpy, memmove, memset and memcmp.
+ * 160 KiB of stack were enough for every call that was tried (library/rust/tests); this is measured and not proved.
  *
  * What a call promises, whatever bytes the texts hold:
  *   - it ends, and returns the refusal's number, or PITCH_GATE_DONE where nothing is refused;

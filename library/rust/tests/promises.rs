@@ -241,6 +241,30 @@ fn longest_state() -> Vec<u8> {
     text.into_bytes()
 }
 
+/// What library/include/pitch_gate.h says of the stack. A call that takes more ends the test's process.
+#[test]
+fn each_call_fits_160_kibibytes_of_stack() {
+    let folder = concat!(env!("CARGO_MANIFEST_DIR"), "/../../vectors/program");
+    let paths = std::fs::read_dir(folder).unwrap().map(|entry| entry.unwrap().path());
+    let inputs: Vec<Vec<u8>> = paths
+        .filter(|path| path.extension().is_some_and(|end| end == "in"))
+        .map(|path| std::fs::read(path).unwrap())
+        .collect();
+    assert!(inputs.len() > 100, "{} inputs", inputs.len());
+    let calls = move || {
+        for input in &inputs {
+            respond(input);
+            if input.windows(8).any(|window| window == b"(steps)\n") {
+                let (rules, steps) = parts(input);
+                let state = run_steps(rules, &fresh_state(), steps).map_or(FRESH.to_vec(), |ran| ran.state);
+                let copied = copy_state_into(rules, &state, &mut vec![0; state.len()]);
+                assert_eq!(copied.is_ok(), check_state(rules, &state).is_ok());
+            }
+        }
+    };
+    std::thread::Builder::new().stack_size(160 * 1024).spawn(calls).unwrap().join().unwrap();
+}
+
 #[test]
 fn a_refusal_names_its_cause() {
     assert_eq!(
