@@ -1,0 +1,98 @@
+//! A refusal of a call: document 01's number, the text that it is about, and the place in it.
+
+use std::error::Error;
+use std::fmt;
+
+/// Why a call did nothing. Every lent byte is as it was.
+#[derive(Clone, Copy, Debug, PartialEq, Eq)]
+pub struct Refusal {
+    /// Document 01's number, 10 to 19.
+    pub number: u64,
+    pub text: Text,
+    /// The line of that text, from 1; for 17 the rule; 0 where there is none.
+    pub place: u64,
+}
+
+/// What a refusal is about.
+#[derive(Clone, Copy, Debug, PartialEq, Eq)]
+pub enum Text {
+    Rules,
+    State,
+    Steps,
+    /// The space lent for the answers, or for the output of [`respond_into`](crate::respond_into).
+    AnswersSpace,
+    /// The space lent for the saved state.
+    StateSpace,
+}
+
+impl Text {
+    pub(crate) fn of_report(text: u64) -> Text {
+        match text {
+            1 => Text::Rules,
+            2 => Text::State,
+            3 => Text::Steps,
+            4 => Text::AnswersSpace,
+            5 => Text::StateSpace,
+            _ => unreachable!("a refusal is about one of five texts, not {text}"),
+        }
+    }
+}
+
+/// The cause of a number in document 01's words, of an answer's number (20 to 30) too; none for a number without a cause.
+pub fn cause(number: u64) -> Option<&'static str> {
+    let cause = match number {
+        10 => "line is no form of its text",
+        11 => "number outside its range (rules, saved)",
+        12 => "rule number not the next",
+        13 => "same role or permission twice in a rule",
+        14 => "no such date, A after B, h = k, box a > c or b > d",
+        15 => "saved line out of order or twice",
+        16 => "place or active without its open, or role not assigned",
+        17 => "saved state breaks a rule",
+        18 => "lent space shorter than the text or answers",
+        19 => "program input too long",
+        20 => "step's number, its kind's included, outside its range",
+        21 => "t before the present time",
+        22 => "session open",
+        23 => "session not open",
+        24 => "already assigned, granted, active in this session",
+        25 => "not assigned, granted, active in this session",
+        26 => "role not assigned to the session's user",
+        27 => "role active in a session of the user",
+        28 => "no role active in the session carries the permission",
+        30 => "a rule broken in the target",
+        _ => return None,
+    };
+    Some(cause)
+}
+
+impl fmt::Display for Text {
+    fn fmt(&self, formatter: &mut fmt::Formatter<'_>) -> fmt::Result {
+        formatter.write_str(match self {
+            Text::Rules => "the rule list",
+            Text::State => "the saved state",
+            Text::Steps => "the steps",
+            Text::AnswersSpace => "the space for the answers",
+            Text::StateSpace => "the space for the saved state",
+        })
+    }
+}
+
+/// For people: `refused with 13 in the rule list, line 2: same role or permission twice in a rule`.
+impl fmt::Display for Refusal {
+    fn fmt(&self, formatter: &mut fmt::Formatter<'_>) -> fmt::Result {
+        let Refusal { number, text, place } = self;
+        write!(formatter, "refused with {number} in {text}")?;
+        match (number, place) {
+            (_, 0) => {}
+            (17, rule) => write!(formatter, ", rule {rule}")?,
+            (_, line) => write!(formatter, ", line {line}")?,
+        }
+        match cause(*number) {
+            Some(cause) => write!(formatter, ": {cause}"),
+            None => Ok(()),
+        }
+    }
+}
+
+impl Error for Refusal {}

@@ -1,0 +1,58 @@
+//! Spaces that are always long enough, from the lengths of document 01's forms.
+
+/// The most bytes that are read of an input of [`respond`](crate::respond) and of steps.
+pub const INPUT_MOST: usize = 65_536;
+
+/// Bytes that hold any output of [`respond`](crate::respond) and the answers to any steps: the shortest step, `(lost 0)`, has 9
+/// bytes with its line feed.
+pub const OUTPUT_MOST: usize = 131_072;
+const _: () = assert!(INPUT_MOST / "(lost 0)\n".len() * ANSWER_MOST <= OUTPUT_MOST);
+
+/// Bytes that hold any one answer. The longest is `(no 30 128 128)`: a list has at most 128 rules. A granted one is shorter:
+/// at most 32 times 32 pairs end, `(yes 128 1024)`.
+pub const ANSWER_MOST: usize = "(no 30 128 128)\n".len();
+
+/// Bytes that hold any saved state: every line that its forms allow is there, with the longest time, users and positions.
+/// No line stands twice (15), so no text is longer.
+pub const STATE_MOST: usize = "(now 3155759999)\n".len()
+    + every("(assigned  )\n", &[USERS, ROLES])
+    + every("(granted  )\n", &[ROLES, PERMISSIONS])
+    + every("(open  63)\n", &[SESSIONS])
+    + every("(place  -1000000 -1000000)\n", &[SESSIONS])
+    + every("(active  )\n", &[SESSIONS, ROLES])
+    + every("(did   )\n", &[OBJECTS, PERMISSIONS, USERS]);
+
+/// Bytes of the fresh state.
+pub(crate) const FRESH: usize = "(now 0)\n".len();
+
+const USERS: usize = 64;
+const ROLES: usize = 32;
+const PERMISSIONS: usize = 32;
+const SESSIONS: usize = 32;
+const OBJECTS: usize = 32;
+
+/// The bytes of a form's lines, one for each choice of a number below each of `counts`; the form is given without them.
+const fn every(form: &str, counts: &[usize]) -> usize {
+    let mut lines = 1;
+    let mut index = 0;
+    while index < counts.len() {
+        lines *= counts[index];
+        index += 1;
+    }
+    let mut bytes = lines * form.len();
+    index = 0;
+    while index < counts.len() {
+        bytes += lines / counts[index] * digits_below(counts[index]);
+        index += 1;
+    }
+    bytes
+}
+
+/// The digits of all numbers below `count`, which is at most 100.
+const fn digits_below(count: usize) -> usize {
+    if count <= 10 {
+        count
+    } else {
+        10 + 2 * (count - 10)
+    }
+}

@@ -1,0 +1,45 @@
+"""What tests/vectors and tests/guide share: the program, the library through library/rust/examples/handover.rs, and the tables."""
+
+import pathlib
+import re
+import subprocess
+import sys
+import tempfile
+
+ROOT = pathlib.Path(__file__).resolve().parent.parent
+EXAMPLES = ROOT / "library/rust/target/debug/examples"
+
+FAMILIES = """before max-users max-roles max-permissions max-active apart apart-active needs during at two-hands
+              same-hand""".split()
+
+
+def build_examples():
+    run(["cargo", "build", "-q", "--offline", "--examples", "--manifest-path", "library/rust/Cargo.toml"])
+
+
+def run(command):
+    if subprocess.run(command, cwd=ROOT, stdin=subprocess.DEVNULL).returncode != 0:
+        sys.exit(f"failed: {' '.join(command)}")
+
+
+def respond(text):
+    """What the program prints for an input."""
+    return subprocess.run([ROOT / "target/bin/gate"], input=text, capture_output=True).stdout.decode()
+
+
+def hand_over(rules, state, steps, spaces):
+    """What handover prints, and the new state that it writes, if it does."""
+    with tempfile.TemporaryDirectory() as folder:
+        files = [pathlib.Path(folder) / name for name in ("rules", "state", "steps", "next")]
+        for file, text in zip(files, (rules, state, steps)):
+            file.write_bytes(text)
+        ran = subprocess.run([EXAMPLES / "handover", *files, *spaces], capture_output=True)
+        if ran.returncode not in (0, 1):
+            sys.exit(f"handover ended with {ran.returncode}: {ran.stderr.decode()}")
+        return ran.stdout.decode(), files[3].read_text() if files[3].exists() else None
+
+
+def numbers():
+    """The refusal numbers of library/include/pitch_gate.h."""
+    header = (ROOT / "library/include/pitch_gate.h").read_text()
+    return re.findall(r"^    PITCH_GATE_\w+ = (\d\d),? +/\*", header, re.MULTILINE)
