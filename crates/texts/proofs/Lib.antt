@@ -2,3 +2,4 @@ pub mod Responding
 pub mod Measuring
 pub mod Program
 pub mod SavedRunning
+pub mod HandingOver
