@@ -9,6 +9,8 @@ ghost use Rattle.enforcement.specs.States.{fresh};
 ghost use Rattle.enforcement.specs.Runs.{planOf, ranOf, writtenOf, plainEntries, plainState};
 use crate::acceptance::is_accepted;
 use crate::states::State;
+use crate::steps::Answer;
+use crate::steps::Next;
 use crate::steps::Step;
 use rules::RuleList;
 
@@ -32,18 +34,23 @@ pub fn run(list: RuleList, state: State, steps: &[Step], answers: &mut [u64]) ->
 {
     let going = plan(list, state, steps.len(), answers.len());
     let count = going.count;
-    let mut current = state;
+    // The state stays where the last step handed it back: a variable of its own would be a copy more at each step.
+    let mut last = Next {
+        state,
+        answer: Answer::Granted {
+            selected: 0,
+            ended: 0,
+        },
+    };
     let mut i = 0;
     while i < count {
-        let next = current.decided(list, steps[i]);
-        let answer = next.answer;
-        answers[i] = answer.word();
-        current = next.state;
+        last = last.state.decided(list, steps[i]);
+        answers[i] = last.answer.word();
         i += 1;
     }
     Ran {
         number: going.number,
-        state: current,
+        state: last.state,
     }
 }
 

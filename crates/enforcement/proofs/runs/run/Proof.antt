@@ -1,5 +1,5 @@
 -- `enforcement::runs::run` meets its contract: a walk of its MIR, by hand. All that the proof knows of `plan`, `State::decided` and `Answer::word` is that each meets its contract.
--- The loop's invariant, at a `Point`: i steps are run, the state and the answers' entries are those that the definitions give after i steps. The variant is what is left of the steps to run.
+-- The loop's invariant, at a `Point`: i steps are run, the state that the last one handed back and the answers' entries are those that the definitions give after i steps. The variant is what is left of the steps to run.
 -- A step is read out of the slice by `looks-slice` and `elem-out`, as one value; an answer is stored by `opens-slice`, `elem-out` and `elem-put`.
 -- The structs are plain data: what they own is never carried, and is made anew of their relation (`Is`) where a callee or the exit asks for it.
 -- Assumes nothing.
@@ -66,6 +66,7 @@ use Rattle.enforcement.specs.Runs.{planOf, ranOf, writtenOf, plainEntrie
 use Rattle.enforcement.specs.declared.states.State.{State}
 use Rattle.enforcement.specs.declared.steps.Step.{Step}
 use Rattle.enforcement.specs.declared.steps.Answer.{Answer}
+use Rattle.enforcement.specs.declared.steps.Answer.the-variants.{Granted}
 use Rattle.enforcement.specs.declared.steps.Next.{Next}
 use Rattle.enforcement.specs.declared.runs.Going.{Going}
 use Rattle.enforcement.specs.declared.runs.Ran.{Ran}
@@ -142,6 +143,9 @@ step-val = SL.val StepT.the-type StepL.the-laws
 abbrev answer-val : Answer → Val
 answer-val = EL.val AnswerT.the-type AnswerL.the-laws
 
+abbrev next-val : Next → Val
+next-val = SL.val NextT.the-type NextL.the-laws
+
 abbrev going-val : Going → Val
 going-val = SL.val GoingT.the-type GoingL.the-laws
 
@@ -160,8 +164,31 @@ IsStep s = Is StepT.the-row s (step-val s ∷ [])
 abbrev IsAnswer : Answer → Type 0
 IsAnswer a = Is AnswerT.the-row a (answer-val a ∷ [])
 
+abbrev IsNext : Next → Type 0
+IsNext r = Is NextT.the-row r (next-val r ∷ [])
+
 abbrev IsGoing : Going → Type 0
 IsGoing g = Is GoingT.the-row g (going-val g ∷ [])
+
+-- ---- of a `Next`: its state and its answer are such
+state-of : (r : Next) → IsNext r → IsState (r .state)
+state-of r p = SL.owed NextT.the-type NextL.the-laws r _ p .0
+
+answer-of : (r : Next) → IsNext r → IsAnswer (r .answer)
+answer-of r p = SL.owed NextT.the-type NextL.the-laws r _ p .1 .0
+
+-- ---- what stands before the first step: its answer is never read
+abbrev unread : Answer
+unread = Granted 0 0
+
+is-unread : IsAnswer unread
+is-unread = EL.owes AnswerT.the-type AnswerL.the-laws unread ((refl, lit< tt), ((refl, lit< tt), tt))
+
+abbrev before-all : State → Next
+before-all st = record { state = st; answer = unread }
+
+is-before : (st : State) → IsState st → IsNext (before-all st)
+is-before st p = SL.owes NextT.the-type NextL.the-laws (before-all st) (p, (is-unread, tt))
 
 -- ---- what the type says of a state
 words-small : (w : Width) (xs : List ℕ) (us : List Val) → shadow (each ℕ (UInt w .own) (map (λ (x : ℕ). x) xs) us) → (j : ℕ) → getD xs j 0 < 2 ^ bits w
@@ -189,12 +216,12 @@ typed-state st is =
 record Point (list : RuleList) (st₀ : State) (ss : List Step) (ys₀ : List ℕ) : Type 0 where
   i : ℕ
   le : i ≤ planOf list st₀ (length ss) (length ys₀) .count
-  st : State
+  last : Next
   ys : List ℕ
-  st-is : st ≡ stateAt list st₀ ss i
+  st-is : last .state ≡ stateAt list st₀ ss i
   ys-is : ys ≡ entriesAt list st₀ ss ys₀ i
   len : length ys ≡ length ys₀
-  is : IsState st
+  is : IsNext last
 
 abbrev stayed : Stays (run′.ended .signature .params) (run′.ended .kept)
 stayed = (stay-none (λ _. ListT.the-row) yes, (stay-none (λ _. StateT.the-row) yes, (stay-none-slice (0 ∷ []) tt (plain (λ _. StepT.the-row)) yes, (stay-slice (1 ∷ []) tt (plain (λ _. u64)), tt))))
@@ -365,18 +392,18 @@ module _ {M : Type 1} (𝓤 : URA M) (H : Heap 𝓤) (A : Atoms 𝓤) (W : Given
     next-fits = omega (arith, in-steps, gn .0)
 
     -- what is decided is what the gate answers
-    stepped : (r : Next) → r ≡ decide (rulesOf list) (x .st) (actionOf s) → r ≡ stepOf list (x .st) s
-    stepped r e = next-is list st₀ ss ys₀ (x .i) (x .st) r accepted (on .listed) (x .st-is) e
+    stepped : (r : Next) → r ≡ decide (rulesOf list) (x .last .state) (actionOf s) → r ≡ stepOf list (x .last .state) s
+    stepped r e = next-is list st₀ ss ys₀ (x .i) (x .last .state) r accepted (on .listed) (x .st-is) e
 
     -- after the step
-    next : (r : Next) (w : ℕ) → r ≡ decide (rulesOf list) (x .st) (actionOf s) → w ≡ wordOf (r .answer) → IsState (r .state) → At-point
+    next : (r : Next) (w : ℕ) → r ≡ decide (rulesOf list) (x .last .state) (actionOf s) → w ≡ wordOf (r .answer) → IsNext r → At-point
     next r w e e′ p = record {
       i = x .i + 1;
       le = add-one-le in-limit;
-      st = r .state;
+      last = r;
       ys = set (x .ys) (x .i) w;
-      st-is = next-state list st₀ ss ys₀ (x .i) (x .st) r in-steps (x .st-is) (stepped r e);
-      ys-is = next-entries list st₀ ss ys₀ (x .i) (x .st) (x .ys) r w in-steps room-for (x .st-is) (x .ys-is) (stepped r e) e′;
+      st-is = next-state list st₀ ss ys₀ (x .i) (x .last .state) r in-steps (x .st-is) (stepped r e);
+      ys-is = next-entries list st₀ ss ys₀ (x .i) (x .last .state) (x .ys) r w in-steps room-for (x .st-is) (x .ys-is) (stepped r e) e′;
       len = length-set (x .ys) (x .i) w ∙ x .len;
       is = p;
     }
@@ -388,25 +415,28 @@ module _ {M : Type 1} (𝓤 : URA M) (H : Heap 𝓤) (A : Atoms 𝓤) (W : Given
   Nearer-wf = InvImage·wf (λ (x : At-point). count - x .i) (Nat·lt-wfRel .wf)
 
   abbrev start : At-point
-  start = record { i = 0; le = zero-le; st = st₀; ys = ys₀; st-is = sym (state-none list st₀ ss ys₀); ys-is = sym (entries-none list st₀ ss ys₀); len = refl; is = gs }
+  start = record { i = 0; le = zero-le; last = before-all st₀; ys = ys₀; st-is = sym (state-none list st₀ ss ys₀); ys-is = sym (entries-none list st₀ ss ys₀); len = refl; is = is-before st₀ gs }
 
   -- at the loop's end
   module _ (x : At-point) (over : T (not (ltb (x .i) count))) where
     abbrev result : Ran
-    result = record { number = going .number; state = x .st }
+    result = record { number = going .number; state = x .last .state }
 
     at-end : x .i ≡ count
     at-end = le-antisymm (x .le) (nltb→le (x .i) count over)
 
     given-is : Given-by list st₀ ss ys₀ result (x .ys)
-    given-is = (result-end list st₀ ss ys₀ (x .i) (x .st) at-end (x .st-is), entries-end list st₀ ss ys₀ (x .i) (x .ys) at-end (x .ys-is))
+    given-is = (result-end list st₀ ss ys₀ (x .i) (x .last .state) at-end (x .st-is), entries-end list st₀ ss ys₀ (x .i) (x .ys) at-end (x .ys-is))
 
     is-ran : IsGoing going → Is RanT.the-row result (ran-val result ∷ [])
-    is-ran p = SL.owes RanT.the-type RanL.the-laws result (SL.owed GoingT.the-type GoingL.the-laws going _ p .0, (x .is, tt))
+    is-ran p = SL.owes RanT.the-type RanL.the-laws result (SL.owed GoingT.the-type GoingL.the-laws going _ p .0, (state-of (x .last) (x .is), tt))
 
   -- the MIR types of the plain types' values
   state-typed : (st : State) → IsState st → T (hasTy StateL.mir (state-val st)) × WT (state-val st)
   state-typed st p = SL.lawful StateT.the-type StateL.the-laws 𝓤 H A W .typed st _ p .0
+
+  next-typed : (r : Next) → IsNext r → T (hasTy NextL.mir (next-val r)) × WT (next-val r)
+  next-typed r p = SL.lawful NextT.the-type NextL.the-laws 𝓤 H A W .typed r _ p .0
 
   answer-typed : (a : Answer) → IsAnswer a → T (hasTy AnswerL.mir (answer-val a)) × WT (answer-val a)
   answer-typed a p = EL.lawful AnswerT.the-type AnswerL.the-laws 𝓤 H A W tt .typed a _ p .0
@@ -421,24 +451,23 @@ module _ {M : Type 1} (𝓤 : URA M) (H : Heap 𝓤) (A : Atoms 𝓤) (W : Given
     fm : FmC 𝓤 H (W .laws) (𝓣 .C)
     fm = fmOf 𝓤 H (W .laws) 𝓣
 
-    module _ (gp : IsGoing going) (l₀ l₁ l₂ l₃ l₄ l₅ l₆ l₇ l₈ l₉ l₁₀ l₁₁ l₁₂ l₁₃ l₁₄ l₁₅ l₁₆ l₁₇ l₁₈ : ℕ) where
+    module _ (gp : IsGoing going) (l₀ l₁ l₂ l₃ l₄ l₅ l₆ l₇ l₈ l₉ l₁₀ l₁₁ l₁₂ l₁₃ l₁₄ l₁₅ l₁₆ l₁₇ : ℕ) where
       abbrev En : Env 𝓤 H
-      En = (RanL.mir, l₀) ∷ (ListL.mir, l₁) ∷ (StateL.mir, l₂) ∷ (stepsTy, l₃) ∷ (answersTy, l₄) ∷ (GoingL.mir, l₅) ∷ (word, l₆) ∷ (StateL.mir, l₇) ∷ (word, l₈) ∷ (NextL.mir, l₉) ∷ (AnswerL.mir, l₁₀) ∷ (word, l₁₁) ∷ (word, l₁₂) ∷ (tyBool, l₁₃) ∷ (word, l₁₄) ∷ (tyPtr, l₁₅) ∷ (StepL.mir, l₁₆) ∷ (word, l₁₇) ∷ (tyPtr, l₁₈) ∷ []
+      En = (RanL.mir, l₀) ∷ (ListL.mir, l₁) ∷ (StateL.mir, l₂) ∷ (stepsTy, l₃) ∷ (answersTy, l₄) ∷ (GoingL.mir, l₅) ∷ (word, l₆) ∷ (NextL.mir, l₇) ∷ (word, l₈) ∷ (word, l₉) ∷ (word, l₁₀) ∷ (AnswerL.mir, l₁₁) ∷ (tyBool, l₁₂) ∷ (word, l₁₃) ∷ (tyPtr, l₁₄) ∷ (StepL.mir, l₁₅) ∷ (word, l₁₆) ∷ (tyPtr, l₁₇) ∷ []
 
-      -- the locals at the loop's head, local k at 2 · (18 − k), and what stands after them
-      abbrev Locals : ℕ → State → List (Item 𝓤) → List (Item 𝓤)
-      Locals i st Γ = ‵ (froom tyPtr l₁₈ 0) ∷ ‵ (fdies tyPtr l₁₈)
-          ∷ ‵ (froom word l₁₇ 0) ∷ ‵ (fdies word l₁₇)
-          ∷ ‵ (froom StepL.mir l₁₆ 0) ∷ ‵ (fdies StepL.mir l₁₆)
-          ∷ ‵ (froom tyPtr l₁₅ 0) ∷ ‵ (fdies tyPtr l₁₅)
-          ∷ ‵ (froom word l₁₄ 0) ∷ ‵ (fdies word l₁₄)
-          ∷ ‵ (froom tyBool l₁₃ 0) ∷ ‵ (fdies tyBool l₁₃)
-          ∷ ‵ (fat fullShare word l₁₂ 0 (vint w64 m)) ∷ ‵ (fdies word l₁₂)
-          ∷ ‵ (fat fullShare word l₁₁ 0 (vint w64 n)) ∷ ‵ (fdies word l₁₁)
-          ∷ ‵ (froom AnswerL.mir l₁₀ 0) ∷ ‵ (fdies AnswerL.mir l₁₀)
-          ∷ ‵ (froom NextL.mir l₉ 0) ∷ ‵ (fdies NextL.mir l₉)
+      -- the locals at the loop's head, local k at 2 · (17 − k), and what stands after them
+      abbrev Locals : ℕ → Next → List (Item 𝓤) → List (Item 𝓤)
+      Locals i last Γ = ‵ (froom tyPtr l₁₇ 0) ∷ ‵ (fdies tyPtr l₁₇)
+          ∷ ‵ (froom word l₁₆ 0) ∷ ‵ (fdies word l₁₆)
+          ∷ ‵ (froom StepL.mir l₁₅ 0) ∷ ‵ (fdies StepL.mir l₁₅)
+          ∷ ‵ (froom tyPtr l₁₄ 0) ∷ ‵ (fdies tyPtr l₁₄)
+          ∷ ‵ (froom word l₁₃ 0) ∷ ‵ (fdies word l₁₃)
+          ∷ ‵ (froom tyBool l₁₂ 0) ∷ ‵ (fdies tyBool l₁₂)
+          ∷ ‵ (fat fullShare AnswerL.mir l₁₁ 0 (answer-val unread)) ∷ ‵ (fdies AnswerL.mir l₁₁)
+          ∷ ‵ (fat fullShare word l₁₀ 0 (vint w64 m)) ∷ ‵ (fdies word l₁₀)
+          ∷ ‵ (fat fullShare word l₉ 0 (vint w64 n)) ∷ ‵ (fdies word l₉)
           ∷ ‵ (fat fullShare word l₈ 0 (vint w64 i)) ∷ ‵ (fdies word l₈)
-          ∷ ‵ (fat fullShare StateL.mir l₇ 0 (state-val st)) ∷ ‵ (fdies StateL.mir l₇)
+          ∷ ‵ (fat fullShare NextL.mir l₇ 0 (next-val last)) ∷ ‵ (fdies NextL.mir l₇)
           ∷ ‵ (fat fullShare word l₆ 0 (vint w64 count)) ∷ ‵ (fdies word l₆)
           ∷ ‵ (fat fullShare GoingL.mir l₅ 0 (going-val going)) ∷ ‵ (fdies GoingL.mir l₅)
           ∷ ‵ (fat fullShare answersTy l₄ 0 (sliceVal (b′, o′) m)) ∷ ‵ (fdies answersTy l₄)
@@ -448,24 +477,24 @@ module _ {M : Type 1} (𝓤 : URA M) (H : Heap 𝓤) (A : Atoms 𝓤) (W : Given
           ∷ ‵ (froom RanL.mir l₀ 0) ∷ ‵ (fdies RanL.mir l₀)
           ∷ Γ
 
-      -- the loop's invariant: 0 to 4 what is held, local k at 5 + 2 · (18 − k), and the steps' ghost name last
+      -- the loop's invariant: 0 to 4 what is held, local k at 5 + 2 · (17 − k), and the steps' ghost name last
       abbrev At : At-point → List (Item 𝓤)
-      At x = ‵ (seen (x .ys)) ∷ ‵ (lent (x .ys)) ∷ ‵ (flft κ′ q′) ∷ ‵ (flft κ q) ∷ ‵ shared ∷ Locals (x .i) (x .st) (‵ named-steps ∷ [])
+      At x = ‵ (seen (x .ys)) ∷ ‵ (lent (x .ys)) ∷ ‵ (flft κ′ q′) ∷ ‵ (flft κ q) ∷ ‵ shared ∷ Locals (x .i) (x .last) (‵ named-steps ∷ [])
 
       -- a turn's postcondition: it ends nearer to the limit, or the loop is left and the rest of the body runs
       abbrev Turned : At-point → Out → SProp 𝓤
-      Turned x = afterTurn 𝓤 H (Below 𝓤 H A Nearer At x) (afterBlock 𝓤 H (afterSeq 𝓤 H (Wp 𝓤 H C Λ En mir′.t-8 (atReturn 𝓤 H En Post)) (atReturn 𝓤 H En Post)))
+      Turned x = afterTurn 𝓤 H (Below 𝓤 H A Nearer At x) (afterBlock 𝓤 H (afterSeq 𝓤 H (Wp 𝓤 H C Λ En mir′.t-9 (atReturn 𝓤 H En Post)) (atReturn 𝓤 H En Post)))
 
       turns : (x : At-point) → Sq W (At x) (runs C Λ En mir′.turn-1 (anyQ (Turned x)))
       unfolding afterTurn next
       turns x =
-          assigns ! (bin ! (load ! (from ! (stop !)) (look ! 25 refl)) (load ! (from ! (stop !)) (look ! 29 refl)) tt) (from ! (stop !)) (init ! 15 refl (tt, tt)) $
+          assigns ! (bin ! (load ! (from ! (stop !)) (look ! 23 refl)) (load ! (from ! (stop !)) (look ! 27 refl)) tt) (from ! (stop !)) (init ! 15 refl (tt, tt)) $
           first ! $ branches ! (load ! (from ! (stop !)) (look ! 15 refl))
           (λ less. skips ! $ exec ! C Λ En more (anyQ (Turned x)) $
           -- the place of steps[i]
-          assigns ! (bin ! (load ! (from ! (stop !)) (look ! 25 refl)) (lit ! tt) (record { fits = off-step x less })) (from ! (stop !)) (init ! 13 refl (tt, record { fits = off-step x less })) $
-          assigns ! (bin ! (load ! (from ! (fld ! refl (stop !))) (look-in ! 35 (sub ! 0 refl (whole !)))) (load ! (from ! (stop !)) (look ! 13 refl)) tt) (from ! (stop !)) (init ! 11 refl (tt, tt)) $
-          rewrite ! 11 (λ (p : ℕ). ‵ (fat fullShare tyPtr l₁₅ 0 (vptr b p))) (sym (place-is 48 o (x .i))) refl $
+          assigns ! (bin ! (load ! (from ! (stop !)) (look ! 23 refl)) (lit ! tt) (record { fits = off-step x less })) (from ! (stop !)) (init ! 13 refl (tt, record { fits = off-step x less })) $
+          assigns ! (bin ! (load ! (from ! (fld ! refl (stop !))) (look-in ! 33 (sub ! 0 refl (whole !)))) (load ! (from ! (stop !)) (look ! 13 refl)) tt) (from ! (stop !)) (init ! 11 refl (tt, tt)) $
+          rewrite ! 11 (λ (p : ℕ). ‵ (fat fullShare tyPtr l₁₄ 0 (vptr b p))) (sym (place-is 48 o (x .i))) refl $
           -- the steps are looked into, and step i is taken out, read, and put back
           move ! (4 ∷ 3 ∷ []) $
           looks-slice ! tt StepT.the-row (Is StepT.the-row) (shows 𝓤 H A StepT.the-row) (SL.vals StepT.the-type StepL.the-laws) (SL.tells StepT.the-type StepL.the-laws) (SL.copy StepT.the-type StepL.the-copy 𝓤 H A W) ss b o (λ p.
@@ -474,26 +503,25 @@ module _ {M : Type 1} (𝓤 : URA M) (H : Heap 𝓤) (A : Atoms 𝓤) (W : Given
           assigns ! (of-opd ! (load ! (from ! (hop ! (look ! 14 refl) (stop !))) (look-raw ! 0 refl))) (from ! (stop !)) (init ! 12 refl (SL.lawful StepT.the-type StepL.the-laws 𝓤 H A W .typed (s x less) _ is-step .0)) $
           elem-back ! StepT.the-row p ss (x .i) noStep (step-val (s x less) ∷ []) b o (in-steps x less) $ shuts-slice ! tt StepT.the-row p ss b o $
           -- [κ; shared; seen; lent; κ′; the locals, from 5]: the step is decided
-          use0 W (raw (Decided 𝓤 H A mem run .pre (to-decided 𝓤 H A mem run list (x .st) (s x less)))) (asks-decided 𝓤 H A mem run W list (x .st) (s x less) gl (x .is) is-step (few-rules x less)) $
-          calls-at ! fm (Decided 𝓤 H A mem run) known-decided (to-decided 𝓤 H A mem run list (x .st) (s x less)) (and-then ! (load ! (from ! (stop !)) (look ! 28 refl)) (and-then ! (load ! (from ! (stop !)) (look ! 40 refl)) (and-then ! (load ! (from ! (stop !)) (look ! 10 refl)) (no-more !)))) (λ u.
-          use1 W (later (some (λ (r : Next). (‵ ftrue ⊛ ‵ (NextT.the-row .own r (u ∷ []))) ⊛ raw (ensured 𝓤 H A decided.ended (decided.clauses 𝓤 H A mem run) tt (x .st, (list, (s x less, tt))) tt r)))) (id⊢ 𝓤 _) $ await ! tt $ pick ! (λ r.
-          split ! $ move ! (1 ∷ []) $ use1 W (raw (fact 𝓤 (r ≡ decide (rulesOf list) (x .st) (actionOf (s x less))))) (decided-said 𝓤 H A mem run list (x .st) (s x less) r) $ heard ! (r ≡ decide (rulesOf list) (x .st) (actionOf (s x less))) (λ e. split ! $ drop ! $
-          facts ! NextT.the-row (Is NextT.the-row) (shows 𝓤 H A NextT.the-row) r (u ∷ []) (λ is-next.
-          land ! (from ! (stop !)) (init ! 23 refl (SL.lawful NextT.the-type NextL.the-laws 𝓤 H A W .typed r _ is-next .0)) $
-          rewrite ! 23 (λ (v : Val). ‵ (fat fullShare NextL.mir l₉ 0 v)) (ap only (SL.tells NextT.the-type NextL.the-laws r (u ∷ []) is-next)) refl $
+          use0 W (raw (Decided 𝓤 H A mem run .pre (to-decided 𝓤 H A mem run list (x .last .state) (s x less)))) (asks-decided 𝓤 H A mem run W list (x .last .state) (s x less) gl (state-of (x .last) (x .is)) is-step (few-rules x less)) $
+          calls-at ! fm (Decided 𝓤 H A mem run) known-decided (to-decided 𝓤 H A mem run list (x .last .state) (s x less)) (and-then ! (load ! (from ! (fld ! refl (stop !))) (look-in ! 26 (sub ! 0 refl (whole !)))) (and-then ! (load ! (from ! (stop !)) (look ! 38 refl)) (and-then ! (load ! (from ! (stop !)) (look ! 10 refl)) (no-more !)))) (λ u.
+          use1 W (later (some (λ (r : Next). (‵ ftrue ⊛ ‵ (NextT.the-row .own r (u ∷ []))) ⊛ raw (ensured 𝓤 H A decided.ended (decided.clauses 𝓤 H A mem run) tt (x .last .state, (list, (s x less, tt))) tt r)))) (id⊢ 𝓤 _) $ await ! tt $ pick ! (λ r.
+          split ! $ move ! (1 ∷ []) $ use1 W (raw (fact 𝓤 (r ≡ decide (rulesOf list) (x .last .state) (actionOf (s x less))))) (decided-said 𝓤 H A mem run list (x .last .state) (s x less) r) $ heard ! (r ≡ decide (rulesOf list) (x .last .state) (actionOf (s x less))) (λ e. split ! $ drop ! $
+          facts ! NextT.the-row (Is NextT.the-row) (shows 𝓤 H A NextT.the-row) r (u ∷ []) (λ owned-next.
+          land ! (from ! (stop !)) (store ! 25 refl (SL.lawful NextT.the-type NextL.the-laws 𝓤 H A W .typed r _ owned-next .0)) $
+          rewrite ! 25 (λ (v : Val). ‵ (fat fullShare NextL.mir l₇ 0 v)) (ap only (SL.tells NextT.the-type NextL.the-laws r (u ∷ []) owned-next)) refl $
           -- the answer as one number
-          assigns ! (of-opd ! (load ! (from ! (fld ! refl (stop !))) (look-in ! 23 (sub ! 1 refl (whole !))))) (from ! (stop !)) (init ! 21 refl (answer-typed (r .answer) (answer-of r u is-next))) $
-          use0 W (raw (Word 𝓤 H A mem run .pre (to-word 𝓤 H A mem run (r .answer)))) (asks-word 𝓤 H A mem run W (r .answer) (answer-of r u is-next)) $
-          calls-at ! fm (Word 𝓤 H A mem run) known-word (to-word 𝓤 H A mem run (r .answer)) (and-then ! (load ! (from ! (stop !)) (look ! 22 refl)) (no-more !)) (λ u′.
+          use0 W (raw (Word 𝓤 H A mem run .pre (to-word 𝓤 H A mem run (r .answer)))) (asks-word 𝓤 H A mem run W (r .answer) (answer-of r (is-next r u owned-next))) $
+          calls-at ! fm (Word 𝓤 H A mem run) known-word (to-word 𝓤 H A mem run (r .answer)) (and-then ! (load ! (from ! (fld ! refl (stop !))) (look-in ! 26 (sub ! 1 refl (whole !)))) (no-more !)) (λ u′.
           use1 W (later (some (λ (w : ℕ). (‵ ftrue ⊛ ‵ (u64 .own w (u′ ∷ []))) ⊛ raw (ensured 𝓤 H A word′.ended (word′.clauses 𝓤 H A mem run) tt (r .answer, tt) tt w)))) (id⊢ 𝓤 _) $ await ! tt $ pick ! (λ w.
           split ! $ move ! (1 ∷ []) $ use1 W (raw (fact 𝓤 (w ≡ wordOf (r .answer)))) (word-said 𝓤 H A mem run (r .answer) w) $ heard ! (w ≡ wordOf (r .answer)) (λ e′. split ! $ drop ! $
           facts ! u64 (Is u64) (shows 𝓤 H A u64) w (u′ ∷ []) (λ is-word.
           land ! (from ! (stop !)) (init ! 7 refl (uint-lawful 𝓤 H A W w64 .typed w _ is-word .0)) $
-          rewrite ! 7 (λ (v : Val). ‵ (fat fullShare word l₁₇ 0 v)) (ap only (uint-tells w64 w (u′ ∷ []) is-word)) refl $
+          rewrite ! 7 (λ (v : Val). ‵ (fat fullShare word l₁₆ 0 v)) (ap only (uint-tells w64 w (u′ ∷ []) is-word)) refl $
           -- the place of answers[i]
-          assigns ! (bin ! (load ! (from ! (stop !)) (look ! 25 refl)) (lit ! tt) (record { fits = off-answer x less })) (from ! (stop !)) (store ! 13 refl (tt, record { fits = off-answer x less })) $
-          assigns ! (bin ! (load ! (from ! (fld ! refl (stop !))) (look-in ! 33 (sub ! 0 refl (whole !)))) (load ! (from ! (stop !)) (look ! 13 refl)) tt) (from ! (stop !)) (init ! 5 refl (tt, tt)) $
-          rewrite ! 5 (λ (p : ℕ). ‵ (fat fullShare tyPtr l₁₈ 0 (vptr b′ p))) (sym (place-is 8 o′ (x .i))) refl $
+          assigns ! (bin ! (load ! (from ! (stop !)) (look ! 23 refl)) (lit ! tt) (record { fits = off-answer x less })) (from ! (stop !)) (store ! 13 refl (tt, record { fits = off-answer x less })) $
+          assigns ! (bin ! (load ! (from ! (fld ! refl (stop !))) (look-in ! 31 (sub ! 0 refl (whole !)))) (load ! (from ! (stop !)) (look ! 13 refl)) tt) (from ! (stop !)) (init ! 5 refl (tt, tt)) $
+          rewrite ! 5 (λ (p : ℕ). ‵ (fat fullShare tyPtr l₁₇ 0 (vptr b′ p))) (sym (place-is 8 o′ (x .i))) refl $
           -- the answers are opened, and the answer is put at i
           move ! (2 ∷ 3 ∷ 4 ∷ []) $ opens-slice ! tt u64 (x .ys) b′ o′ $
           elem-out ! u64 (Is u64) (shows 𝓤 H A u64) (uint-vals w64) (uint-tells w64) fullShare (x .ys) (x .i) 0 b′ o′ (in-answers x less) (λ _.
@@ -503,35 +531,31 @@ module _ {M : Type 1} (𝓤 : URA M) (H : Heap 𝓤) (A : Atoms 𝓤) (W : Given
           elem-put ! u64 fullShare (x .ys) (x .i) w (vint w64 w ∷ []) b′ o′ (in-answers x less) $
           closes-slice ! tt u64 (x .ys) (set (x .ys) (x .i) w) (length-set (x .ys) (x .i) w) b′ o′ $
           -- [seen; lent; κ′; κ; shared; the locals, from 5]
-          assigns ! (of-opd ! (load ! (from ! (fld ! refl (stop !))) (look-in ! 23 (sub ! 0 refl (whole !))))) (from ! (stop !)) (store ! 27 refl (state-typed (r .state) (state-of r u is-next))) $
-          assigns-last ! (bin ! (load ! (from ! (stop !)) (look ! 25 refl)) (lit ! tt) (record { fits = next-fits x less })) (from ! (stop !)) (store ! 25 refl (tt, record { fits = next-fits x less })) $
-          forget ! 5 refl $ forget ! 7 refl $ forget ! 9 refl $ forget ! 11 refl $ forget ! 13 refl $ forget ! 15 refl $ forget ! 21 refl $ forget ! 23 refl $
-          again ! Nearer At x (next x less r w e e′ (state-of r u is-next)) (add-one-dec count (x .i) (in-limit x less))))))))))))))
-          (λ over. jumps ! $ exec ! C Λ En mir′.t-8 (atRet En Post) $
-          assigns ! (agg ! (and-then ! (load ! (from ! (fld ! refl (stop !))) (look-in ! 31 (sub ! 0 refl (whole !)))) (and-then ! (load ! (from ! (stop !)) (look ! 27 refl)) (no-more !)))) (from ! (stop !)) (init ! 41 refl (SL.lawful RanT.the-type RanL.the-laws 𝓤 H A W .typed (result x over) _ (is-ran x over gp) .0)) $
-          returns ! (look ! 41 refl) $ forget ! 15 refl $ forget ! 17 refl $ forget ! 19 refl $ forget ! 25 refl $ forget ! 27 refl $ forget ! 29 refl $ forget ! 31 refl $ forget ! 33 refl $ forget ! 35 refl $ forget ! 37 refl $ forget ! 39 refl $ forget ! 41 refl $
-          move ! (41 ∷ 42 ∷ []) $ free1 ! $ move ! (39 ∷ 40 ∷ []) $ free1 ! $ move ! (37 ∷ 38 ∷ []) $ free1 ! $ move ! (35 ∷ 36 ∷ []) $ free1 ! $ move ! (33 ∷ 34 ∷ []) $ free1 ! $ move ! (31 ∷ 32 ∷ []) $ free1 ! $ move ! (29 ∷ 30 ∷ []) $ free1 ! $ move ! (27 ∷ 28 ∷ []) $ free1 ! $ move ! (25 ∷ 26 ∷ []) $ free1 ! $ move ! (23 ∷ 24 ∷ []) $ free1 ! $ move ! (21 ∷ 22 ∷ []) $ free1 ! $ move ! (19 ∷ 20 ∷ []) $ free1 ! $ move ! (17 ∷ 18 ∷ []) $ free1 ! $ move ! (15 ∷ 16 ∷ []) $ free1 ! $ move ! (13 ∷ 14 ∷ []) $ free1 ! $ move ! (11 ∷ 12 ∷ []) $ free1 ! $ move ! (9 ∷ 10 ∷ []) $ free1 ! $ move ! (7 ∷ 8 ∷ []) $ free1 ! $ move ! (5 ∷ 6 ∷ []) $ free1 ! $ free0 ! $
+          assigns-last ! (bin ! (load ! (from ! (stop !)) (look ! 23 refl)) (lit ! tt) (record { fits = next-fits x less })) (from ! (stop !)) (store ! 23 refl (tt, record { fits = next-fits x less })) $
+          forget ! 5 refl $ forget ! 7 refl $ forget ! 9 refl $ forget ! 11 refl $ forget ! 13 refl $ forget ! 15 refl $
+          again ! Nearer At x (next x less r w e e′ (is-next r u owned-next)) (add-one-dec count (x .i) (in-limit x less))))))))))))))
+          (λ over. jumps ! $ exec ! C Λ En mir′.t-9 (atRet En Post) $
+          assigns ! (agg ! (and-then ! (load ! (from ! (fld ! refl (stop !))) (look-in ! 29 (sub ! 0 refl (whole !)))) (and-then ! (load ! (from ! (fld ! refl (stop !))) (look-in ! 25 (sub ! 0 refl (whole !)))) (no-more !)))) (from ! (stop !)) (init ! 39 refl (SL.lawful RanT.the-type RanL.the-laws 𝓤 H A W .typed (result x over) _ (is-ran x over gp) .0)) $
+          returns ! (look ! 39 refl) $ forget ! 15 refl $ forget ! 17 refl $ forget ! 19 refl $ forget ! 21 refl $ forget ! 23 refl $ forget ! 25 refl $ forget ! 27 refl $ forget ! 29 refl $ forget ! 31 refl $ forget ! 33 refl $ forget ! 35 refl $ forget ! 37 refl $ forget ! 39 refl $
+          move ! (39 ∷ 40 ∷ []) $ free1 ! $ move ! (37 ∷ 38 ∷ []) $ free1 ! $ move ! (35 ∷ 36 ∷ []) $ free1 ! $ move ! (33 ∷ 34 ∷ []) $ free1 ! $ move ! (31 ∷ 32 ∷ []) $ free1 ! $ move ! (29 ∷ 30 ∷ []) $ free1 ! $ move ! (27 ∷ 28 ∷ []) $ free1 ! $ move ! (25 ∷ 26 ∷ []) $ free1 ! $ move ! (23 ∷ 24 ∷ []) $ free1 ! $ move ! (21 ∷ 22 ∷ []) $ free1 ! $ move ! (19 ∷ 20 ∷ []) $ free1 ! $ move ! (17 ∷ 18 ∷ []) $ free1 ! $ move ! (15 ∷ 16 ∷ []) $ free1 ! $ move ! (13 ∷ 14 ∷ []) $ free1 ! $ move ! (11 ∷ 12 ∷ []) $ free1 ! $ move ! (9 ∷ 10 ∷ []) $ free1 ! $ move ! (7 ∷ 8 ∷ []) $ free1 ! $ move ! (5 ∷ 6 ∷ []) $ free1 ! $ free0 ! $
           owned ! RanT.the-row (Is RanT.the-row) (SL.makes RanT.the-type RanL.the-plain 𝓤 H A) (result x over) (ran-val (result x over) ∷ []) (is-ran x over gp) $
           by ! (exits (x .ys) (result x over) (ran-val (result x over)) (x .len) (given-is x over) (plain-by list st₀ ss ys₀ (result x over) (x .ys) (given-is x over))))
         where
-          -- of what is known of a `Next`: its answer and its state are such
-          answer-of : (r : Next) (u : Val) → Is NextT.the-row r (u ∷ []) → IsAnswer (r .answer)
-          answer-of r u p = SL.owed NextT.the-type NextL.the-laws r _ p .1 .0
-
-          state-of : (r : Next) (u : Val) → Is NextT.the-row r (u ∷ []) → IsState (r .state)
-          state-of r u p = SL.owed NextT.the-type NextL.the-laws r _ p .0
+          -- what is handed back is a `Next`
+          is-next : (r : Next) (u : Val) → Is NextT.the-row r (u ∷ []) → IsNext r
+          is-next r u p = subst (Is NextT.the-row r) (SL.tells NextT.the-type NextL.the-laws r (u ∷ []) p) p
 
       -- the loop, from what stands before it: what the parameters own is taken apart
       abbrev owned-all : Item 𝓤
       owned-all = ‵ (owns (ListT.the-row ∷ StateT.the-row ∷ ShrSlice (named 0) κ StepT.the-row ∷ MutSlice (named 1) κ′ u64 ∷ []) (list, (st₀, (steps, (answers ys₀, tt)))) at)
 
-      loop-runs : Sq W (Locals 0 st₀ ((‵ (flft κ q) ⊛ ‵ (flft κ′ q′) ⊛ ‵ ftrue) ∷ owned-all ∷ [])) (runs C Λ En mir′.t-7 (atRet En Post))
+      loop-runs : Sq W (Locals 0 (before-all st₀) ((‵ (flft κ q) ⊛ ‵ (flft κ′ q′) ⊛ ‵ ftrue) ∷ owned-all ∷ [])) (runs C Λ En mir′.t-8 (atRet En Post))
       loop-runs =
           -- [the locals; the tokens; what the parameters own]
-          move ! (39 ∷ []) $ fsplit ! $ drop ! $ fsplit ! $ drop ! $ fsplit ! $ fsplit ! $ drop ! $ fsplit ! $ move ! (2 ∷ []) $ fsplit ! $ fsplit ! $ drop ! $ fsplit ! $
+          move ! (37 ∷ []) $ fsplit ! $ drop ! $ fsplit ! $ drop ! $ fsplit ! $ fsplit ! $ drop ! $ fsplit ! $ move ! (2 ∷ []) $ fsplit ! $ fsplit ! $ drop ! $ fsplit ! $
           -- [seen; lent; true; the steps' name; shared; the locals, from 5; the tokens]
-          move ! (43 ∷ []) $ split ! $ move ! (1 ∷ []) $ split ! $
-          keep ! (3 ∷ 4 ∷ 0 ∷ 2 ∷ 7 ∷ 8 ∷ 9 ∷ 10 ∷ 11 ∷ 12 ∷ 13 ∷ 14 ∷ 15 ∷ 16 ∷ 17 ∷ 18 ∷ 19 ∷ 20 ∷ 21 ∷ 22 ∷ 23 ∷ 24 ∷ 25 ∷ 26 ∷ 27 ∷ 28 ∷ 29 ∷ 30 ∷ 31 ∷ 32 ∷ 33 ∷ 34 ∷ 35 ∷ 36 ∷ 37 ∷ 38 ∷ 39 ∷ 40 ∷ 41 ∷ 42 ∷ 43 ∷ 44 ∷ 45 ∷ 6 ∷ []) $
+          move ! (41 ∷ []) $ split ! $ move ! (1 ∷ []) $ split ! $
+          keep ! (3 ∷ 4 ∷ 0 ∷ 2 ∷ 7 ∷ 8 ∷ 9 ∷ 10 ∷ 11 ∷ 12 ∷ 13 ∷ 14 ∷ 15 ∷ 16 ∷ 17 ∷ 18 ∷ 19 ∷ 20 ∷ 21 ∷ 22 ∷ 23 ∷ 24 ∷ 25 ∷ 26 ∷ 27 ∷ 28 ∷ 29 ∷ 30 ∷ 31 ∷ 32 ∷ 33 ∷ 34 ∷ 35 ∷ 36 ∷ 37 ∷ 38 ∷ 39 ∷ 40 ∷ 41 ∷ 42 ∷ 43 ∷ 6 ∷ []) $
           first ! $ blocks ! $ loops ! 𝓣 Nearer Nearer-wf At turns start
 
     -- the MIR up to the loop
@@ -540,21 +564,22 @@ module _ {M : Type 1} (𝓤 : URA M) (H : Heap 𝓤) (A : Atoms 𝓤) (W : Given
     walk =
         qed W ((‵ (flft κ q) ⊛ ‵ (flft κ′ q′) ⊛ ‵ ftrue) ∷ ‵ (owns (ListT.the-row ∷ StateT.the-row ∷ ShrSlice (named 0) κ StepT.the-row ∷ MutSlice (named 1) κ′ u64 ∷ []) (list, (st₀, (steps, (answers ys₀, tt)))) at) ∷ []) ∵
         enter ! C Λ code.function (list-val list ∷ state-val st₀ ∷ sliceVal (b, o) n ∷ sliceVal (b′, o′) m ∷ []) _ $
-        alloc1 ! (λ l₀. alloc1 ! (λ l₁. alloc1 ! (λ l₂. alloc1 ! (λ l₃. alloc1 ! (λ l₄. alloc1 ! (λ l₅. alloc1 ! (λ l₆. alloc1 ! (λ l₇. alloc1 ! (λ l₈. alloc1 ! (λ l₉. alloc1 ! (λ l₁₀. alloc1 ! (λ l₁₁. alloc1 ! (λ l₁₂. alloc1 ! (λ l₁₃. alloc1 ! (λ l₁₄. alloc1 ! (λ l₁₅. alloc1 ! (λ l₁₆. alloc1 ! (λ l₁₇. alloc1 ! (λ l₁₈. alloc0 ! $ params1 ! $
-        pass1 ! (init ! 34 refl (SL.lawful ListT.the-type ListL.the-laws 𝓤 H A W .typed list _ gl .0)) $ pass1 ! (init ! 32 refl (state-typed st₀ gs)) $ pass1 ! (init ! 30 refl (tt, (tt, (record { fits = gn .0 }, tt)))) $ pass1 ! (init ! 28 refl (tt, (tt, (record { fits = gm .0 }, tt)))) $ pass0 ! $
-        assigns ! (of-opd ! (load ! (from ! (fld ! refl (stop !))) (look-in ! 30 (sub ! 1 refl (whole !))))) (from ! (stop !)) (init ! 14 refl (tt, record { fits = gn .0 })) $
-        assigns ! (of-opd ! (load ! (from ! (fld ! refl (stop !))) (look-in ! 28 (sub ! 1 refl (whole !))))) (from ! (stop !)) (init ! 12 refl (tt, record { fits = gm .0 })) $
+        alloc1 ! (λ l₀. alloc1 ! (λ l₁. alloc1 ! (λ l₂. alloc1 ! (λ l₃. alloc1 ! (λ l₄. alloc1 ! (λ l₅. alloc1 ! (λ l₆. alloc1 ! (λ l₇. alloc1 ! (λ l₈. alloc1 ! (λ l₉. alloc1 ! (λ l₁₀. alloc1 ! (λ l₁₁. alloc1 ! (λ l₁₂. alloc1 ! (λ l₁₃. alloc1 ! (λ l₁₄. alloc1 ! (λ l₁₅. alloc1 ! (λ l₁₆. alloc1 ! (λ l₁₇. alloc0 ! $ params1 ! $
+        pass1 ! (init ! 32 refl (SL.lawful ListT.the-type ListL.the-laws 𝓤 H A W .typed list _ gl .0)) $ pass1 ! (init ! 30 refl (state-typed st₀ gs)) $ pass1 ! (init ! 28 refl (tt, (tt, (record { fits = gn .0 }, tt)))) $ pass1 ! (init ! 26 refl (tt, (tt, (record { fits = gm .0 }, tt)))) $ pass0 ! $
+        assigns ! (of-opd ! (load ! (from ! (fld ! refl (stop !))) (look-in ! 28 (sub ! 1 refl (whole !))))) (from ! (stop !)) (init ! 16 refl (tt, record { fits = gn .0 })) $
+        assigns ! (of-opd ! (load ! (from ! (fld ! refl (stop !))) (look-in ! 26 (sub ! 1 refl (whole !))))) (from ! (stop !)) (init ! 14 refl (tt, record { fits = gm .0 })) $
         use0 W (raw (Plan 𝓤 H A mem run .pre (to-plan 𝓤 H A mem run list st₀ n m))) (asks-plan 𝓤 H A mem run W list st₀ n m gl gs (gn .0) (gm .0)) $
-        calls-at ! fm (Plan 𝓤 H A mem run) known-plan (to-plan 𝓤 H A mem run list st₀ n m) (and-then ! (load ! (from ! (stop !)) (look ! 35 refl)) (and-then ! (load ! (from ! (stop !)) (look ! 33 refl)) (and-then ! (load ! (from ! (stop !)) (look ! 15 refl)) (and-then ! (load ! (from ! (stop !)) (look ! 13 refl)) (no-more !))))) (λ u.
+        calls-at ! fm (Plan 𝓤 H A mem run) known-plan (to-plan 𝓤 H A mem run list st₀ n m) (and-then ! (load ! (from ! (stop !)) (look ! 33 refl)) (and-then ! (load ! (from ! (stop !)) (look ! 31 refl)) (and-then ! (load ! (from ! (stop !)) (look ! 17 refl)) (and-then ! (load ! (from ! (stop !)) (look ! 15 refl)) (no-more !))))) (λ u.
         use1 W (later (some (λ (r : Going). (‵ ftrue ⊛ ‵ (GoingT.the-row .own r (u ∷ []))) ⊛ raw (ensured 𝓤 H A plan.ended (plan.clauses 𝓤 H A mem run) tt (list, (st₀, (n, (m, tt)))) tt r)))) (id⊢ 𝓤 _) $ await ! tt $ pick ! (λ r.
         split ! $ move ! (1 ∷ []) $ use1 W (raw (fact 𝓤 (r ≡ going))) (plan-said 𝓤 H A mem run list st₀ n m r) $ heard ! (r ≡ going) (λ e. split ! $ drop ! $
         facts ! GoingT.the-row (Is GoingT.the-row) (shows 𝓤 H A GoingT.the-row) r (u ∷ []) (λ is.
-        land ! (from ! (stop !)) (init ! 26 refl (SL.lawful GoingT.the-type GoingL.the-laws 𝓤 H A W .typed r _ is .0)) $
-        rewrite ! 26 (λ (v : Val). ‵ (fat fullShare GoingL.mir l₅ 0 v)) (ap only (SL.tells GoingT.the-type GoingL.the-laws r (u ∷ []) is) ∙ ap going-val e) refl $
-        assigns ! (of-opd ! (load ! (from ! (fld ! refl (stop !))) (look-in ! 26 (sub ! 1 refl (whole !))))) (from ! (stop !)) (init ! 24 refl (tt, record { fits = SL.owed GoingT.the-type GoingL.the-laws going _ (is-going r u e is) .1 .0 .1 })) $
-        assigns ! (of-opd ! (load ! (from ! (stop !)) (look ! 32 refl))) (from ! (stop !)) (init ! 22 refl (state-typed st₀ gs)) $
-        assigns ! (of-opd ! (lit ! tt)) (from ! (stop !)) (init ! 20 refl (tt, record { fits = lit< tt })) $
-        loop-runs (is-going r u e is) l₀ l₁ l₂ l₃ l₄ l₅ l₆ l₇ l₈ l₉ l₁₀ l₁₁ l₁₂ l₁₃ l₁₄ l₁₅ l₁₆ l₁₇ l₁₈)))))))))))))))))))))))
+        land ! (from ! (stop !)) (init ! 24 refl (SL.lawful GoingT.the-type GoingL.the-laws 𝓤 H A W .typed r _ is .0)) $
+        rewrite ! 24 (λ (v : Val). ‵ (fat fullShare GoingL.mir l₅ 0 v)) (ap only (SL.tells GoingT.the-type GoingL.the-laws r (u ∷ []) is) ∙ ap going-val e) refl $
+        assigns ! (of-opd ! (load ! (from ! (fld ! refl (stop !))) (look-in ! 24 (sub ! 1 refl (whole !))))) (from ! (stop !)) (init ! 22 refl (tt, record { fits = SL.owed GoingT.the-type GoingL.the-laws going _ (is-going r u e is) .1 .0 .1 })) $
+        assigns ! (agg ! (and-then ! (lit ! tt) (and-then ! (lit ! tt) (and-then ! (lit ! tt) (no-more !))))) (from ! (stop !)) (init ! 12 refl (answer-typed unread is-unread)) $
+        assigns ! (agg ! (and-then ! (load ! (from ! (stop !)) (look ! 30 refl)) (and-then ! (load ! (from ! (stop !)) (look ! 12 refl)) (no-more !)))) (from ! (stop !)) (init ! 20 refl (next-typed (before-all st₀) (is-before st₀ gs))) $
+        assigns ! (of-opd ! (lit ! tt)) (from ! (stop !)) (init ! 18 refl (tt, record { fits = lit< tt })) $
+        loop-runs (is-going r u e is) l₀ l₁ l₂ l₃ l₄ l₅ l₆ l₇ l₈ l₉ l₁₀ l₁₁ l₁₂ l₁₃ l₁₄ l₁₅ l₁₆ l₁₇))))))))))))))))))))))
       where
         is-going : (r : Going) (u : Val) → r ≡ going → Is GoingT.the-row r (u ∷ []) → IsGoing going
         is-going r u e is = subst IsGoing e (subst (Is GoingT.the-row r) (SL.tells GoingT.the-type GoingL.the-laws r (u ∷ []) is) is)
