@@ -8,9 +8,9 @@ ghost use Rattle.rules.specs.Acceptance.{listAccepted};
 ghost use Rattle.enforcement.specs.States.{fresh};
 ghost use Rattle.enforcement.specs.Runs.{planOf, ranOf, writtenOf, plainEntries, plainState};
 use crate::acceptance::is_accepted;
+use crate::configurations::NextConfiguration;
 use crate::states::State;
 use crate::steps::Answer;
-use crate::steps::Next;
 use crate::steps::Step;
 use rules::RuleList;
 
@@ -34,9 +34,11 @@ pub fn run(list: RuleList, state: State, steps: &[Step], answers: &mut [u64]) ->
 {
     let going = plan(list, state, steps.len(), answers.len());
     let count = going.count;
-    // The state stays where the last step handed it back: a variable of its own would be a copy more at each step.
-    let mut last = Next {
-        state,
+    // The history stays in one place, and the rest of the state where the last step handed it back: else each would be copied at every
+    // step. The answer that stands here before the first step is never read.
+    let mut history = state.history;
+    let mut last = NextConfiguration {
+        configuration: state.configuration(),
         answer: Answer::Granted {
             selected: 0,
             ended: 0,
@@ -44,13 +46,13 @@ pub fn run(list: RuleList, state: State, steps: &[Step], answers: &mut [u64]) ->
     };
     let mut i = 0;
     while i < count {
-        last = last.state.decided(list, steps[i]);
+        last = last.configuration.decided(list, steps[i], &mut history);
         answers[i] = last.answer.word();
         i += 1;
     }
     Ran {
         number: going.number,
-        state: last.state,
+        state: last.configuration.with_history(history),
     }
 }
 
