@@ -24,7 +24,9 @@ use Rattle.enforcement.specs.Steps.{passes, refuseIf, check, target, act
 use Rattle.enforcement.specs.Decisions.{endedPairs, pairCount}
 use Rattle.enforcement.specs.Selection.{selects, selectedNumber}
 use Rattle.enforcement.specs.Gate.{keeps, stays, round, remaining, refusedNext, passedNext, checkedNext, decide, stepOf}
-use Rattle.enforcement.specs.Deciding.{context, leftOf, stateFrom, answered, keptEffect, effectNext, eventOf, placedOf}
+use Rattle.enforcement.specs.Deciding.{context, leftOf, stateFrom, answered, configurationOf, stateOf, nextOf, keptEffect, effectNext, eventOf, placedOf}
+use Rattle.enforcement.specs.declared.configurations.Configuration.{Configuration}
+use Rattle.enforcement.specs.declared.configurations.NextConfiguration.{NextConfiguration}
 use Rattle.enforcement.specs.declared.kinds.Effect.{Effect}
 use Rattle.enforcement.specs.declared.steps.Answer.{Answer}
 use Rattle.enforcement.specs.declared.states.State.{State}
@@ -132,6 +134,13 @@ module _ (list : RuleList) (s : State) (step : Step) where
   pub step-accepted : (listAccepted list && stateAccepted s) ≡ true → decide (rulesOf list) s (actionOf step) ≡ stepOf list s step
   unfolding stepOf
   step-accepted h = rw (h) refl
+
+  -- from a state that was taken apart, and put together again
+  pub step-parts : (c : Configuration) (next : NextConfiguration) (history : List ℕ) (after : State)
+      → (listAccepted list && stateAccepted s) ≡ true → c ≡ configurationOf s → nextOf next history ≡ decide (rulesOf list) (stateOf c (s .history)) (actionOf step) → after ≡ stateOf (next .configuration) history
+      → answered after (next .answer) ≡ stepOf list s step
+  step-parts c next history after accepted apart decided together =
+      ap (λ (x : State). answered x (next .answer)) together ∙ decided ∙ ap (λ (x : Configuration). decide (rulesOf list) (stateOf x (s .history)) (actionOf step)) apart ∙ step-accepted accepted
 
 pub accepted-length : (list : RuleList) → listAccepted list ≡ true → list .length ≤ 128
 unfolding listAccepted

@@ -22,6 +22,8 @@ use Rattle.enforcement.specs.Gate.{testsSelected, keeps, stays, sifted, 
 use Rattle.enforcement.specs.declared.states.State.{State}
 use Rattle.enforcement.specs.declared.steps.Action.{Action}
 use Rattle.enforcement.specs.declared.kinds.Effect.{Effect}
+use Rattle.enforcement.specs.declared.configurations.Configuration.{Configuration}
+use Rattle.enforcement.specs.declared.configurations.NextConfiguration.{NextConfiguration}
 use Rattle.enforcement.specs.declared.steps.Answer.{Answer}
 use Rattle.enforcement.specs.declared.steps.Answer.the-variants.{Granted, Refused}
 use Rattle.enforcement.specs.declared.steps.Next.{Next}
@@ -133,6 +135,17 @@ stateFrom time assigned granted sessions active history =
 -- a state with an answer
 abbrev pub answered : State → Answer → Next
 answered s answer = record { state = s; answer = answer }
+
+-- a state but for its history, a state by that and its history, and the same of what a step hands back
+abbrev pub configurationOf : State → Configuration
+configurationOf s = record { time = s .time; assigned = s .assigned; granted = s .granted; sessions = s .sessions; active = s .active }
+
+abbrev pub stateOf : Configuration → List ℕ → State
+stateOf configuration history =
+    stateFrom (configuration .time) (configuration .assigned) (configuration .granted) (configuration .sessions) (configuration .active) history
+
+abbrev pub nextOf : NextConfiguration → List ℕ → Next
+nextOf next history = answered (stateOf (next .configuration) history) (next .answer)
 
 -- sessions and time as they were
 unfoldable pub keptEffect : List Session → ℕ → Answer → Effect

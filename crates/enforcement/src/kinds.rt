@@ -1,5 +1,5 @@
 // What the kinds of step do, with numbers in range. Each function takes the fields of a state one by one, the one that it changes lent
-// as `&mut`, from the method of `State` for its kind: below that method no call copies the state.
+// as `&mut`, from the method of `Configuration` for its kind: below that method no call copies the state.
 ghost use mathlib.Core.Path.{_≡_};
 ghost use mathlib.Core.List.{List};
 ghost use Prim.Native.Nat.{ℕ, _<_, _≤_};

@@ -1,5 +1,6 @@
 // The gate of document 01, 'State and steps': the state, the steps, and what a step answers.
 mod acceptance;
+mod configurations;
 mod events;
 mod judging;
 mod kinds;

@@ -8,7 +8,9 @@ ghost use Rattle.rules.specs.Acceptance.{listAccepted};
 ghost use Rattle.enforcement.specs.States.{fresh};
 ghost use Rattle.enforcement.specs.Runs.{planOf, ranOf, writtenOf, plainEntries, plainState};
 use crate::acceptance::is_accepted;
+use crate::configurations::NextConfiguration;
 use crate::states::State;
+use crate::steps::Answer;
 use crate::steps::Step;
 use rules::RuleList;
 
@@ -32,18 +34,25 @@ pub fn run(list: RuleList, state: State, steps: &[Step], answers: &mut [u64]) ->
 {
     let going = plan(list, state, steps.len(), answers.len());
     let count = going.count;
-    let mut current = state;
+    // The history stays in one place, and the rest of the state where the last step handed it back: else each would be copied at every
+    // step. The answer that stands here before the first step is never read.
+    let mut history = state.history;
+    let mut last = NextConfiguration {
+        configuration: state.configuration(),
+        answer: Answer::Granted {
+            selected: 0,
+            ended: 0,
+        },
+    };
     let mut i = 0;
     while i < count {
-        let next = current.decided(list, steps[i]);
-        let answer = next.answer;
-        answers[i] = answer.word();
-        current = next.state;
+        last = last.configuration.decided(list, steps[i], &mut history);
+        answers[i] = last.answer.word();
         i += 1;
     }
     Ran {
         number: going.number,
-        state: current,
+        state: last.configuration.with_history(history),
     }
 }
 

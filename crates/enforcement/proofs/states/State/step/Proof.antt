@@ -4,7 +4,7 @@ use mathlib.Core.Path.{sym, ap, ap₂, _∙_}
 use mathlib.Core.Bool.{Bool, _&&_}
 use borrow.Author.Tests.{not-true, not-false}
 use Rattle.enforcement.specs.States.{stateAccepted}
-use Rattle.enforcement.proofs.Answering.{step-unaccepted, step-accepted, accepted-length}
+use Rattle.enforcement.proofs.Answering.{step-unaccepted, step-parts, accepted-length}
 use borrow.Author.Needs.{needs}
 use Rattle.enforcement.proofs.states.State.step.Statement.{statement}
 use Rattle.enforcement.proofs.states.State.step.Tie as tie
@@ -28,12 +28,23 @@ returns-2 : tie.Need-returns-2
 unfolding stateAccepted
 returns-2 c = c .refused2 .ensures ∙ step-unaccepted (c .before .before .before .before .before .before .before .before .args .list) (c .before .before .before .before .before .before .before .before .args .t1) (c .before .before .before .before .before .before .before .before .args .step) (ap₂ (λ (a d : Bool). a && d) (sym (c .before .before .before .before .before .before .before .is-accepted .ensures) ∙ not-false _ (c .before .before .before .before .before .before .if1 .left)) (sym (c .before .before .is-accepted2 .ensures) ∙ not-true _ (c .before .if2 .taken)))
 
+configuration-requires : tie.Need-configuration-requires
+configuration-requires c κs = search needs
+
 decided-requires : tie.Need-decided-requires
-decided-requires c κs = accepted-length _ (sym (c .before .before .before .before .before .before .is-accepted .ensures) ∙ not-false _ (c .before .before .before .before .before .if1 .left))
+decided-requires c κs = (accepted-length _ (sym (c .before .before .before .before .before .before .before .before .before .is-accepted .ensures) ∙ not-false _ (c .before .before .before .before .before .before .before .before .if1 .left)), search needs)
+
+with-history-requires : tie.Need-with-history-requires
+with-history-requires c κs = search needs
 
 returns-3 : tie.Need-returns-3
 unfolding stateAccepted
-returns-3 c = c .decided .ensures ∙ step-accepted (c .before .before .before .before .before .before .before .before .args .list) (c .before .before .before .before .before .before .before .before .args .t1) (c .before .before .before .before .before .before .before .before .args .step) (ap₂ (λ (a d : Bool). a && d) (sym (c .before .before .before .before .before .before .before .is-accepted .ensures) ∙ not-false _ (c .before .before .before .before .before .before .if1 .left)) (sym (c .before .before .is-accepted2 .ensures) ∙ not-false _ (c .before .if2 .left)))
+returns-3 c =
+    let list = c .before .before .before .before .before .before .before .before .before .before .before .before .before .args .list in
+    let s = c .before .before .before .before .before .before .before .before .before .before .before .before .before .args .t1 in
+    let listed = sym (c .before .before .before .before .before .before .before .before .before .before .before .before .is-accepted .ensures) ∙ not-false _ (c .before .before .before .before .before .before .before .before .before .before .before .if1 .left) in
+    let stated = sym (c .before .before .before .before .before .before .before .is-accepted2 .ensures) ∙ not-false _ (c .before .before .before .before .before .before .if2 .left) in
+    step-parts list s (c .before .before .before .before .before .before .before .before .before .before .before .before .before .args .step) _ _ _ _ (ap₂ (λ (a d : Bool). a && d) listed stated) (c .before .before .before .before .configuration .ensures) (c .before .before .decided .ensures) (c .with-history .ensures)
 
 pub step-spec : {M : Type 1} → statement M
 step-spec =
@@ -45,5 +56,7 @@ step-spec =
     is-accepted-requires-2
     refused-requires-2
     returns-2
+    configuration-requires
     decided-requires
+    with-history-requires
     returns-3)

@@ -1,8 +1,8 @@
--- `enforcement::states::State::open_session` meets its contract.
+-- `enforcement::configurations::Configuration::open_session` meets its contract.
 -- Assumes nothing.
 use borrow.Author.Needs.{needs}
-use Rattle.enforcement.proofs.states.State.open_session.Statement.{statement}
-use Rattle.enforcement.proofs.states.State.open_session.Tie as tie
+use Rattle.enforcement.proofs.configurations.Configuration.open_session.Statement.{statement}
+use Rattle.enforcement.proofs.configurations.Configuration.open_session.Tie as tie
 
 open-session-requires : tie.Need-open-session-requires
 open-session-requires c κs = search needs
@@ -14,7 +14,7 @@ element-set-from-place : tie.Need-element-set-from-place
 element-set-from-place c = search needs
 
 returns : tie.Need-returns
-returns c = c .before .open-session .ensures .1 _ _ _ _ _
+returns c history = c .before .open-session .ensures .1 _ _ _ _ history
 
 pub open-session-spec : {M : Type 1} → statement M
 open-session-spec =

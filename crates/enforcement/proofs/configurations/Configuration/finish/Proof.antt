@@ -1,8 +1,8 @@
--- `enforcement::states::State::finish` meets its contract.
+-- `enforcement::configurations::Configuration::finish` meets its contract.
 -- Assumes nothing.
 use borrow.Author.Needs.{needs}
-use Rattle.enforcement.proofs.states.State.finish.Statement.{statement}
-use Rattle.enforcement.proofs.states.State.finish.Tie as tie
+use Rattle.enforcement.proofs.configurations.Configuration.finish.Statement.{statement}
+use Rattle.enforcement.proofs.configurations.Configuration.finish.Tie as tie
 
 finish-requires : tie.Need-finish-requires
 finish-requires c κs = search needs
