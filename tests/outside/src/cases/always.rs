@@ -28,6 +28,7 @@ fn compare_number_edges(comparison: &mut Comparison) -> Compared {
     for line in RULE_LINES {
         for rules in number_edges(line) {
             comparison.check_rules(&rules)?;
+            comparison.respond(&input(&rules, b""))?;
         }
     }
     for saved in number_edges(SAVED_TEXT) {

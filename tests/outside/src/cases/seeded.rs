@@ -13,7 +13,7 @@ use crate::plain::state::State;
 use crate::plain::state_text::write_state;
 use crate::plain::step_text::write_steps;
 
-const DAMAGED_ROUNDS: usize = 4;
+const DAMAGED_ROUNDS: usize = 8;
 /// Steps up to which a damaged text is run as often as it is read.
 const FEW_STEPS: usize = 100;
 
@@ -44,13 +44,9 @@ impl Texts {
         let world = World::new(random);
         let mut rules = rule_list(random, &world);
         let start = match random.below(10) {
-            0..=4 => State::fresh(),
-            5..=7 => grown_state(random, &world, &rules),
-            _ => {
-                let most = if world.users.len() > 4 { 3 } else { 70 };
-                let chance = 1 + random.below(most);
-                drawn_state(random, &world, chance)
-            }
+            0..=3 => State::fresh(),
+            4..=5 => grown_state(random, &world, &rules),
+            _ => drawn_state(random, &world),
         };
         rules.retain(|rule| rule.holds(&start));
         let length = length(random, &start);

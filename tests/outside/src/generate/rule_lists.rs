@@ -8,10 +8,42 @@ use crate::plain::ranges::{METRES, RADII, TIMES};
 use crate::plain::rules::Rule;
 
 const FAMILIES: usize = 12;
+const NEEDS: usize = 7;
+const DURING: usize = 8;
+const AT: usize = 9;
 const LAST_DAY: i64 = 36_524;
 const MINUTES_OF_DAY: i64 = 1440;
 
 pub fn rule_list(random: &mut Random, world: &World) -> Vec<Rule> {
+    if random.percent(30) {
+        chain(random, world)
+    } else {
+        mixed(random, world)
+    }
+}
+
+/// Each role needs the one before, and the first can end by itself; with a few
+/// other rules in between.
+fn chain(random: &mut Random, world: &World) -> Vec<Rule> {
+    let role = world.roles[0];
+    let first = if random.percent(40) {
+        Rule::During { role, term: term(random, world.start) }
+    } else {
+        Rule::At { role, side: side(random) }
+    };
+    let links = world.roles.windows(2).take(8);
+    let mut rules: Vec<Rule> =
+        links.map(|pair| Rule::Needs { role: pair[1], needed: pair[0] }).collect();
+    rules.insert(random.below(rules.len() + 1), first);
+    for _ in 0..random.below(3) {
+        let family = random.below(FAMILIES);
+        let place = random.below(rules.len() + 1);
+        rules.insert(place, rule(random, world, family));
+    }
+    rules
+}
+
+fn mixed(random: &mut Random, world: &World) -> Vec<Rule> {
     let families = families(random);
     let length = length(random);
     let rules = (0..length).map(|_| {
@@ -21,20 +53,24 @@ pub fn rule_list(random: &mut Random, world: &World) -> Vec<Rule> {
     rules.collect()
 }
 
-/// Every family, or a few, so that a short list has rules that meet.
+/// Every family, those that end active roles, or a few, so that a short list
+/// has rules that meet.
 fn families(random: &mut Random) -> Vec<usize> {
-    if random.percent(40) {
-        return (0..FAMILIES).collect();
+    match random.below(10) {
+        0..=2 => (0..FAMILIES).collect(),
+        3..=5 => vec![NEEDS, NEEDS, DURING, AT],
+        _ => {
+            let length = 1 + random.below(4);
+            (0..length).map(|_| random.below(FAMILIES)).collect()
+        }
     }
-    let length = 1 + random.below(4);
-    (0..length).map(|_| random.below(FAMILIES)).collect()
 }
 
 fn length(random: &mut Random) -> usize {
     match random.below(100) {
         0..=4 => 0,
-        5..=69 => 1 + random.below(8),
-        70..=89 => 9 + random.below(22),
+        5..=74 => 1 + random.below(7),
+        75..=89 => 8 + random.below(23),
         90..=96 => 31 + random.below(98),
         _ => 128,
     }
@@ -51,11 +87,20 @@ fn rule(random: &mut Random, world: &World, family: usize) -> Rule {
         4 => Rule::MaxActive { limit: limit(random, 32) },
         5 => Rule::Apart { role, other },
         6 => Rule::ApartActive { role, other },
-        7 => Rule::Needs { role, needed: other },
-        8 => Rule::During { role, term: term(random, world.start) },
-        9 => Rule::At { role, side: side(random) },
+        NEEDS => needs(random, role, other),
+        DURING => Rule::During { role, term: term(random, world.start) },
+        AT => Rule::At { role, side: side(random) },
         10 => Rule::TwoHands { permission, other: other_permission },
         _ => Rule::SameHand { permission, other: other_permission },
+    }
+}
+
+/// Mostly of a lower role, so that chains are more frequent than circles.
+fn needs(random: &mut Random, one: i64, other: i64) -> Rule {
+    if random.percent(80) {
+        Rule::Needs { role: one.max(other), needed: one.min(other) }
+    } else {
+        Rule::Needs { role: one, needed: other }
     }
 }
 

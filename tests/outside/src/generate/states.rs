@@ -14,8 +14,9 @@ pub fn grown_state(random: &mut Random, world: &World, rules: &[Rule]) -> State 
     step_lists::step_list(random, world, rules, &State::fresh(), length).1
 }
 
-/// Each line that could be there is there with the same chance, in percent.
-pub fn drawn_state(random: &mut Random, world: &World, chance: usize) -> State {
+/// Each line that could be there is there with the same chance.
+pub fn drawn_state(random: &mut Random, world: &World) -> State {
+    let chance = 1 + random.below(if world.is_wide() { 3 } else { 100 });
     let mut state = State { time: world.start, ..State::fresh() };
     for &role in &world.roles {
         let users = world.users.iter().filter(|_| random.percent(chance));

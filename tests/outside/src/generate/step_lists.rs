@@ -3,9 +3,9 @@
 use super::random::Random;
 use super::rule_lists::{metre, time_at_an_edge};
 use super::world::World;
-use crate::plain::calendar::SECONDS_OF_DAY;
-use crate::plain::gate::decide;
-use crate::plain::places::{Position, Shape};
+use crate::plain::calendar::{Term, SECONDS_OF_DAY};
+use crate::plain::gate::{decide, Answer};
+use crate::plain::places::{Position, Shape, Side};
 use crate::plain::ranges::TIMES;
 use crate::plain::rules::Rule;
 use crate::plain::state::State;
@@ -51,17 +51,17 @@ enum Kind {
 /// How often each kind comes: requests that build up more often than events
 /// that end.
 const KINDS: [(Kind, usize); 13] = [
-    (Kind::Assign, 14),
-    (Kind::Withdraw, 4),
-    (Kind::Grant, 8),
+    (Kind::Assign, 12),
+    (Kind::Withdraw, 3),
+    (Kind::Grant, 6),
     (Kind::Take, 2),
     (Kind::Open, 9),
-    (Kind::Activate, 26),
-    (Kind::Deactivate, 5),
-    (Kind::Access, 12),
+    (Kind::Activate, 34),
+    (Kind::Deactivate, 4),
+    (Kind::Access, 9),
     (Kind::Finish, 2),
-    (Kind::Close, 3),
-    (Kind::Move, 9),
+    (Kind::Close, 2),
+    (Kind::Move, 8),
     (Kind::Lost, 2),
     (Kind::Clock, 4),
 ];
@@ -74,14 +74,31 @@ impl Source<'_> {
     }
 
     fn choose(&mut self) -> Step {
-        let kind = self.kind();
-        let likely = if self.random.percent(80) { self.likely(kind) } else { None };
-        let step = likely.unwrap_or_else(|| self.any(kind));
-        if self.random.percent(3) {
+        let start = self.world.start;
+        if self.state.time < start && self.random.percent(10) {
+            return Step::Clock { time: start };
+        }
+        let step = match self.random.below(100) {
+            0..=81 => self.likely_of_some_kind(),
+            _ => None,
+        };
+        let step = step.unwrap_or_else(|| {
+            let kind = self.kind();
+            self.any(kind)
+        });
+        if self.random.percent(2) {
             self.with_a_number_outside(step)
         } else {
             step
         }
+    }
+
+    fn likely_of_some_kind(&mut self) -> Option<Step> {
+        (0..8).find_map(|_| {
+            let kind = self.kind();
+            let too_early = self.state.active.is_empty() && ends_roles(kind);
+            if too_early { None } else { self.likely(kind) }
+        })
     }
 
     fn kind(&mut self) -> Kind {
@@ -147,7 +164,16 @@ impl Source<'_> {
         self.random.pick_any(&open)
     }
 
+    /// One that is granted, where a few tries find it.
     fn new_activation(&mut self) -> Option<Step> {
+        let steps: Vec<Step> = (0..4).filter_map(|_| self.possible_activation()).collect();
+        let is_granted = |step: &&Step| {
+            matches!(decide(self.rules, &self.state, step).answer, Answer::Yes { .. })
+        };
+        steps.iter().find(is_granted).or(steps.first()).cloned()
+    }
+
+    fn possible_activation(&mut self) -> Option<Step> {
         let session = self.open_session()?;
         let user = self.state.sessions[&session].user;
         let assigned = self.state.assigned.range((user, 0)..(user + 1, 0));
@@ -201,7 +227,6 @@ impl Source<'_> {
             1 => now,
             2..=3 => now + self.random.between(1, 3600),
             4 => now + self.random.between(1, 3 * SECONDS_OF_DAY),
-            _ if now < self.world.start - SECONDS_OF_DAY => self.world.start,
             5..=16 if !terms.is_empty() => {
                 let term = *self.random.pick(&terms);
                 time_at_an_edge(self.random, term, now)
@@ -211,10 +236,21 @@ impl Source<'_> {
         time.clamp(*TIMES.start(), *TIMES.end())
     }
 
+    /// Half of the time one at which more of the `at` rules hold than at others.
     fn position(&mut self) -> Position {
-        let shapes: Vec<Shape> = self.rules.iter().filter_map(shape_of).collect();
-        match self.random.pick_any(&shapes) {
-            Some(shape) if self.random.percent(85) => near_an_edge(self.random, shape),
+        let tries = if self.random.percent(50) { 5 } else { 1 };
+        let positions: Vec<Position> = (0..tries).map(|_| self.any_position()).collect();
+        let sides: Vec<Side> = self.rules.iter().filter_map(side_of).collect();
+        let kept = |position: &Position| {
+            sides.iter().filter(|side| side.holds(Some(*position))).count()
+        };
+        positions.into_iter().max_by_key(kept).expect("there is a try")
+    }
+
+    fn any_position(&mut self) -> Position {
+        let sides: Vec<Side> = self.rules.iter().filter_map(side_of).collect();
+        match self.random.pick_any(&sides) {
+            Some(side) if self.random.percent(85) => near_an_edge(self.random, side.shape()),
             _ => Position {
                 x: self.random.between(-30, 30),
                 y: self.random.between(-30, 30),
@@ -249,18 +285,25 @@ impl Source<'_> {
     }
 }
 
-fn term_of(rule: &Rule) -> Option<&crate::plain::calendar::Term> {
+fn term_of(rule: &Rule) -> Option<&Term> {
     match rule {
         Rule::During { term, .. } => Some(term),
         _ => None,
     }
 }
 
-fn shape_of(rule: &Rule) -> Option<Shape> {
+fn side_of(rule: &Rule) -> Option<Side> {
     match rule {
-        Rule::At { side, .. } => Some(side.shape()),
+        Rule::At { side, .. } => Some(*side),
         _ => None,
     }
+}
+
+fn ends_roles(kind: Kind) -> bool {
+    matches!(
+        kind,
+        Kind::Withdraw | Kind::Take | Kind::Deactivate | Kind::Close | Kind::Lost | Kind::Clock
+    )
 }
 
 fn near_an_edge(random: &mut Random, shape: Shape) -> Position {

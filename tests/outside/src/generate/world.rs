@@ -24,7 +24,7 @@ impl World {
         }
     }
 
-    /// Two to four of each, so that rules bite.
+    /// Few of each, so that rules bite.
     fn dense(random: &mut Random) -> World {
         World {
             users: few(random, USERS),
@@ -47,6 +47,10 @@ impl World {
         }
     }
 
+    pub fn is_wide(&self) -> bool {
+        self.users.len() == USERS.count()
+    }
+
     pub fn two_roles(&self, random: &mut Random) -> (i64, i64) {
         two(random, &self.roles)
     }
@@ -64,7 +68,7 @@ fn two(random: &mut Random, numbers: &[i64]) -> (i64, i64) {
 
 /// Distinct numbers; now and then the ends of the range are among them.
 fn few(random: &mut Random, range: RangeInclusive<i64>) -> Vec<i64> {
-    let wanted = 2 + random.below(3);
+    let wanted = 2 + random.below(4);
     let mut numbers = Vec::new();
     if random.percent(30) {
         numbers.extend([*range.start(), *range.end()]);
