@@ -101,8 +101,7 @@ fn nth_weekdays() {
 #[test]
 fn every_so_many_days_from_a_date_on() {
     let term = Term::Every { interval: 14, start: date(2026, 6, 8) };
-    let held: Vec<i64> =
-        (-14..=28).filter(|past| term.holds(at(MONDAY + past, 12, 0))).collect();
+    let held: Vec<i64> = (-14..=28).filter(|past| term.holds(at(MONDAY + past, 12, 0))).collect();
     assert_eq!(held, [0, 14, 28]);
 }
 

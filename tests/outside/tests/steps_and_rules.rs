@@ -10,7 +10,8 @@ use outside::plain::state_text::read_state;
 /// The answers, one form after another.
 fn answers(rules: &[&str], steps: &[&str]) -> Vec<String> {
     let numbered = rules.iter().zip(1..);
-    let rules: String = numbered.map(|(rule, number)| format!("(rule {number} {rule})\n")).collect();
+    let rules: String =
+        numbered.map(|(rule, number)| format!("(rule {number} {rule})\n")).collect();
     let steps: String = steps.iter().map(|step| format!("{step}\n")).collect();
     let input = format!("{rules}(steps)\n{steps}");
     let output = String::from_utf8(respond(input.as_bytes(), &mut |_, _, _| {})).unwrap();
@@ -214,7 +215,8 @@ fn at_looks_at_the_session() {
 #[test]
 fn hands_on_one_object() {
     let rules = ["(two-hands 1 2)", "(same-hand 3 4)"];
-    let mut steps: Vec<String> = (1..=4).map(|permission| format!("(grant 0 {permission})")).collect();
+    let mut steps: Vec<String> =
+        (1..=4).map(|permission| format!("(grant 0 {permission})")).collect();
     steps.extend(
         [
             "(assign 5 0)",
@@ -272,7 +274,8 @@ fn a_circle_of_needs_stays() {
 #[test]
 fn two_good_parts_of_which_none_contains_the_other() {
     let rules = read_rules(b"(rule 1 (max-active 1))\n").unwrap();
-    let saved = b"(now 0)\n(assigned 0 1)\n(assigned 0 2)\n(open 0 0)\n(active 0 1)\n(active 0 2)\n";
+    let saved =
+        b"(now 0)\n(assigned 0 1)\n(assigned 0 2)\n(open 0 0)\n(active 0 1)\n(active 0 2)\n";
     let target = read_state(&[], saved).unwrap();
     assert_eq!(by_every_part(&rules, &target), None);
 }

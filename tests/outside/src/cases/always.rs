@@ -9,7 +9,8 @@ use crate::plain::ranges::LONGEST_INPUT;
 use crate::plain::state_text::write_state;
 
 const FRESH: &[u8] = b"(now 0)\n";
-const LISTING: &str = "(rule 1 (needs 2 1))\n(rule 2 (apart 1 3))\n(steps)\n(assign 5 1)\n(assign 5 3)\n\
+const LISTING: &str =
+    "(rule 1 (needs 2 1))\n(rule 2 (apart 1 3))\n(steps)\n(assign 5 1)\n(assign 5 3)\n\
     (assign 6 2)\n(open 0 5)\n(open 1 6)\n(activate 1 2)\n(activate 0 1)\n(activate 1 2)\n\
     (deactivate 0 1)\n(close 0)\n(clock 0)\n";
 

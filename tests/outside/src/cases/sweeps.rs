@@ -95,7 +95,8 @@ pub fn place_sweep() -> Sweep {
 /// At each event the roles that may stay do, and all others are tried.
 fn sweep(family: &str, fields: &[&str], events: impl Iterator<Item = String>) -> Sweep {
     let numbered = fields.iter().enumerate();
-    let rules = numbered.map(|(role, field)| format!("(rule {} ({family} {role} {field}))\n", role + 1));
+    let rules =
+        numbered.map(|(role, field)| format!("(rule {} ({family} {role} {field}))\n", role + 1));
     let assigned = ROLES.map(|role| format!("(assigned 0 {role})\n"));
     let tries: String = ROLES.map(|role| format!("(activate 0 {role})\n")).collect();
     let state = format!("(now 0)\n{}(open 0 0)\n", assigned.collect::<String>());
@@ -130,14 +131,27 @@ fn times() -> Vec<i64> {
 /// Each hour of the week of 2026-06-08, with the minute before and after it.
 fn minutes_of_a_week() -> impl Iterator<Item = i64> {
     let monday = 9655 * SECONDS_OF_DAY;
-    (0..7 * 24).flat_map(move |hour| [-60, -1, 0, 59, 60].map(|second| monday + hour * 3600 + second))
+    (0..7 * 24)
+        .flat_map(move |hour| [-60, -1, 0, 59, 60].map(|second| monday + hour * 3600 + second))
 }
 
 /// A grid about the origin, and the ends of the ranges.
 fn positions() -> Vec<(i64, i64)> {
     let mut positions = grid(&Vec::from_iter(-9..=9));
     let (start, end) = (*METRES.start(), *METRES.end());
-    positions.extend(grid(&[start, start + 1, -100_000, -1, 0, 1, 99_999, 100_000, 100_001, end - 1, end]));
+    positions.extend(grid(&[
+        start,
+        start + 1,
+        -100_000,
+        -1,
+        0,
+        1,
+        99_999,
+        100_000,
+        100_001,
+        end - 1,
+        end,
+    ]));
     positions.extend([(60_000, 80_000), (60_000, 80_001), (-80_000, 60_000), (-80_001, 60_000)]);
     positions
 }

@@ -163,7 +163,12 @@ impl Comparison {
                 }
                 Err(refusal) => {
                     let texts = [rules, &found.state, piece];
-                    return self.same("run_steps", &texts, &"no refusal", &refusal.to_string().as_str());
+                    return self.same(
+                        "run_steps",
+                        &texts,
+                        &"no refusal",
+                        &refusal.to_string().as_str(),
+                    );
                 }
             }
         }

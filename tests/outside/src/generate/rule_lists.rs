@@ -155,10 +155,7 @@ fn week(random: &mut Random, time: i64) -> Term {
 
 fn nth(random: &mut Random, day: i64) -> Term {
     let near = (day + random.between(-1, 2)).clamp(0, LAST_DAY);
-    Term::Nth {
-        week: (Date::of_day(near).day_of_month - 1) / 7 + 1,
-        weekday: weekday(near),
-    }
+    Term::Nth { week: (Date::of_day(near).day_of_month - 1) / 7 + 1, weekday: weekday(near) }
 }
 
 fn every(random: &mut Random, day: i64) -> Term {

@@ -3,8 +3,8 @@
 use super::random::Random;
 use super::step_lists;
 use super::world::World;
-use crate::plain::ranges::{METRES, OBJECTS, PERMISSIONS, ROLES, SESSIONS, TIMES, USERS};
 use crate::plain::places::Position;
+use crate::plain::ranges::{METRES, OBJECTS, PERMISSIONS, ROLES, SESSIONS, TIMES, USERS};
 use crate::plain::rules::Rule;
 use crate::plain::state::{Session, State};
 

@@ -97,7 +97,11 @@ impl Source<'_> {
         (0..8).find_map(|_| {
             let kind = self.kind();
             let too_early = self.state.active.is_empty() && ends_roles(kind);
-            if too_early { None } else { self.likely(kind) }
+            if too_early {
+                None
+            } else {
+                self.likely(kind)
+            }
         })
     }
 
@@ -241,9 +245,8 @@ impl Source<'_> {
         let tries = if self.random.percent(50) { 5 } else { 1 };
         let positions: Vec<Position> = (0..tries).map(|_| self.any_position()).collect();
         let sides: Vec<Side> = self.rules.iter().filter_map(side_of).collect();
-        let kept = |position: &Position| {
-            sides.iter().filter(|side| side.holds(Some(*position))).count()
-        };
+        let kept =
+            |position: &Position| sides.iter().filter(|side| side.holds(Some(*position))).count();
         positions.into_iter().max_by_key(kept).expect("there is a try")
     }
 
@@ -251,10 +254,7 @@ impl Source<'_> {
         let sides: Vec<Side> = self.rules.iter().filter_map(side_of).collect();
         match self.random.pick_any(&sides) {
             Some(side) if self.random.percent(85) => near_an_edge(self.random, side.shape()),
-            _ => Position {
-                x: self.random.between(-30, 30),
-                y: self.random.between(-30, 30),
-            },
+            _ => Position { x: self.random.between(-30, 30), y: self.random.between(-30, 30) },
         }
     }
 

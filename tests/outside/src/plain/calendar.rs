@@ -6,12 +6,29 @@ pub const SECONDS_OF_DAY: i64 = 86_400;
 
 #[derive(Clone, Debug, PartialEq, Eq)]
 pub enum Term {
-    Dates { first: Date, last: Date },
+    Dates {
+        first: Date,
+        last: Date,
+    },
     /// `from` and `until` are minutes of the day; `until` may be 1440 (2400).
-    Week { first: i64, last: i64, from: i64, until: i64 },
-    Months { first: i64, last: i64 },
-    Nth { week: i64, weekday: i64 },
-    Every { interval: i64, start: Date },
+    Week {
+        first: i64,
+        last: i64,
+        from: i64,
+        until: i64,
+    },
+    Months {
+        first: i64,
+        last: i64,
+    },
+    Nth {
+        week: i64,
+        weekday: i64,
+    },
+    Every {
+        interval: i64,
+        start: Date,
+    },
 }
 
 /// As it is written, so it may name no day at all.
@@ -125,7 +142,11 @@ fn is_leap(year: i64) -> bool {
 }
 
 fn days_of_year(year: i64) -> i64 {
-    if is_leap(year) { 366 } else { 365 }
+    if is_leap(year) {
+        366
+    } else {
+        365
+    }
 }
 
 fn days_of_month(year: i64, month: i64) -> i64 {

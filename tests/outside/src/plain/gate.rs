@@ -25,7 +25,12 @@ pub struct Outcome {
 /// Told of each step with its outcome.
 pub type Watch<'watch> = dyn FnMut(&[Rule], &Step, &Outcome) + 'watch;
 
-pub fn run(rules: &[Rule], state: State, steps: &[Step], watch: &mut Watch) -> (Vec<Answer>, State) {
+pub fn run(
+    rules: &[Rule],
+    state: State,
+    steps: &[Step],
+    watch: &mut Watch,
+) -> (Vec<Answer>, State) {
     let mut state = state;
     let mut answers = Vec::new();
     for step in steps {

@@ -82,9 +82,7 @@ fn may_stay(rules: &[Rule], state: &State, (session, active): (i64, i64)) -> boo
     rules.iter().all(|rule| match *rule {
         Rule::Needs { role, needed } if role == active => state.is_active_anywhere(needed),
         Rule::During { role, ref term } if role == active => term.holds(state.time),
-        Rule::At { role, side } if role == active => {
-            side.holds(state.sessions[&session].position)
-        }
+        Rule::At { role, side } if role == active => side.holds(state.sessions[&session].position),
         _ => true,
     })
 }

@@ -73,12 +73,7 @@ fn read_rule(form: &Form, numbers: &mut Numbers) -> Option<Rule> {
     }
 }
 
-fn read_rule_of_role(
-    family: &str,
-    role: i64,
-    field: &Form,
-    numbers: &mut Numbers,
-) -> Option<Rule> {
+fn read_rule_of_role(family: &str, role: i64, field: &Form, numbers: &mut Numbers) -> Option<Rule> {
     Some(match family {
         "max-users" => Rule::MaxUsers { role, limit: numbers.whole(field, USER_LIMITS)? },
         "max-permissions" => {
@@ -131,14 +126,12 @@ fn read_side(form: &Form, numbers: &mut Numbers) -> Option<Side> {
 
 fn read_shape(form: &Form, numbers: &mut Numbers) -> Option<Shape> {
     Some(match form.list()? {
-        [Form::Word("circle"), x, y, radius] => Shape::Circle {
-            centre: numbers.position(x, y)?,
-            radius: numbers.whole(radius, RADII)?,
-        },
-        [Form::Word("box"), left, bottom, right, top] => Shape::Box {
-            low: numbers.position(left, bottom)?,
-            high: numbers.position(right, top)?,
-        },
+        [Form::Word("circle"), x, y, radius] => {
+            Shape::Circle { centre: numbers.position(x, y)?, radius: numbers.whole(radius, RADII)? }
+        }
+        [Form::Word("box"), left, bottom, right, top] => {
+            Shape::Box { low: numbers.position(left, bottom)?, high: numbers.position(right, top)? }
+        }
         _ => return None,
     })
 }

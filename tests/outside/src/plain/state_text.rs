@@ -80,10 +80,9 @@ fn read_line(line: Option<&[u8]>, last_key: Option<Key>, state: &State) -> Resul
 fn read_saved(form: &Form, numbers: &mut Numbers) -> Option<Saved> {
     Some(match form.list()? {
         [Form::Word("now"), time] => Saved::Now { time: numbers.whole(time, TIMES)? },
-        [Form::Word("assigned"), user, role] => Saved::Assigned {
-            user: numbers.whole(user, USERS)?,
-            role: numbers.whole(role, ROLES)?,
-        },
+        [Form::Word("assigned"), user, role] => {
+            Saved::Assigned { user: numbers.whole(user, USERS)?, role: numbers.whole(role, ROLES)? }
+        }
         [Form::Word("granted"), role, permission] => Saved::Granted {
             role: numbers.whole(role, ROLES)?,
             permission: numbers.whole(permission, PERMISSIONS)?,

@@ -41,9 +41,7 @@ fn read_step_of(kind: &str, fields: &[i64]) -> Option<Step> {
         ("open", &[session, user]) => Step::Open { session, user },
         ("activate", &[session, role]) => Step::Activate { session, role },
         ("deactivate", &[session, role]) => Step::Deactivate { session, role },
-        ("access", &[session, permission, object]) => {
-            Step::Access { session, permission, object }
-        }
+        ("access", &[session, permission, object]) => Step::Access { session, permission, object },
         ("finish", &[object]) => Step::Finish { object },
         ("close", &[session]) => Step::Close { session },
         ("lost", &[session]) => Step::Lost { session },

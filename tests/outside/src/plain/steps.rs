@@ -65,10 +65,9 @@ impl Step {
         }
         let checks: &[(u64, bool)] = match *self {
             Step::Assign { user, role } => &[(24, state.is_assigned(user, role))],
-            Step::Withdraw { user, role } => &[
-                (25, !state.is_assigned(user, role)),
-                (27, state.is_active_for(user, role)),
-            ],
+            Step::Withdraw { user, role } => {
+                &[(25, !state.is_assigned(user, role)), (27, state.is_active_for(user, role))]
+            }
             Step::Grant { role, permission } => &[(24, state.carries(role, permission))],
             Step::Take { role, permission } => &[(25, !state.carries(role, permission))],
             Step::Open { session, .. } => &[(22, state.is_open(session))],
@@ -77,10 +76,9 @@ impl Step {
                 (24, state.is_active(session, role)),
                 (26, !is_assigned_to_the_user(state, session, role)),
             ],
-            Step::Deactivate { session, role } => &[
-                (23, !state.is_open(session)),
-                (25, !state.is_active(session, role)),
-            ],
+            Step::Deactivate { session, role } => {
+                &[(23, !state.is_open(session)), (25, !state.is_active(session, role))]
+            }
             Step::Access { session, permission, .. } => &[
                 (23, !state.is_open(session)),
                 (28, !state.active_in(session).any(|role| state.carries(role, permission))),
@@ -143,10 +141,7 @@ impl Step {
 }
 
 fn is_assigned_to_the_user(state: &State, session: i64, role: i64) -> bool {
-    state
-        .sessions
-        .get(&session)
-        .is_some_and(|session| state.is_assigned(session.user, role))
+    state.sessions.get(&session).is_some_and(|session| state.is_assigned(session.user, role))
 }
 
 fn set_position(target: &mut State, session: i64, position: Option<Position>) {
