@@ -79,7 +79,7 @@ pub const STATE_SPACE: &str = "the space for the state";
 const NOTHING: &str = "";
 
 /// The refusals of each call, by the text that they are about.
-const CALLS: [(&str, &str, &[u64]); 20] = [
+const CALLS: [(&str, &str, &[u64]); 21] = [
     ("respond", NOTHING, &[NOT_REFUSED]),
     ("respond", INPUT, &[10, 11, 12, 13, 14, 19]),
     ("respond", ANSWERS_SPACE, &[18]),
@@ -97,9 +97,10 @@ const CALLS: [(&str, &str, &[u64]); 20] = [
     ("run_steps", NOTHING, &[NOT_REFUSED]),
     ("run_steps", RULES, &[10, 11, 12, 13, 14]),
     ("run_steps", STATE, &[10, 11, 15, 16, 17]),
-    ("run_steps", STEPS_TEXT, &[10]),
+    ("run_steps", STEPS_TEXT, &[10, 19]),
     ("run_steps", ANSWERS_SPACE, &[18]),
     ("run_steps", STATE_SPACE, &[18]),
+    ("run_steps of a piece", NOTHING, &[NOT_REFUSED]),
 ];
 
 impl Counts {

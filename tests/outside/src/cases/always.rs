@@ -3,12 +3,14 @@
 use super::sweeps::{calendar_sweep, place_sweep, Sweep};
 use super::{input, STEPS_LINE};
 use crate::compare::{Compared, Comparison};
-use crate::generate::edges::{number_edges, RULE_LINES, SAVED_TEXT, STEP_LINES};
+use crate::generate::edges::{lines_inserted, number_edges, RULE_LINES, SAVED_TEXT, STEP_LINES};
 use crate::generate::states::fullest_state;
 use crate::plain::ranges::LONGEST_INPUT;
 use crate::plain::state_text::write_state;
 
 const FRESH: &[u8] = b"(now 0)\n";
+/// Before a line that has the number 1 too, so that 12 meets what comes before and after it.
+const FIRST_RULE: &[u8] = b"(rule 1 (max-roles 0))\n";
 const LISTING: &str =
     "(rule 1 (needs 2 1))\n(rule 2 (apart 1 3))\n(steps)\n(assign 5 1)\n(assign 5 3)\n\
     (assign 6 2)\n(open 0 5)\n(open 1 6)\n(activate 1 2)\n(activate 0 1)\n(activate 1 2)\n\
@@ -20,6 +22,7 @@ pub fn compare_always(comparison: &mut Comparison) -> Compared {
     compare_number_edges(comparison)?;
     compare_long_rule_lists(comparison)?;
     compare_long_inputs(comparison)?;
+    compare_long_steps(comparison)?;
     compare_fullest_state(comparison)?;
     compare_sweep(comparison, calendar_sweep())?;
     compare_sweep(comparison, place_sweep())
@@ -29,10 +32,11 @@ fn compare_number_edges(comparison: &mut Comparison) -> Compared {
     for line in RULE_LINES {
         for rules in number_edges(line) {
             comparison.check_rules(&rules)?;
+            comparison.check_rules(&[FIRST_RULE, &rules].concat())?;
             comparison.respond(&input(&rules, b""))?;
         }
     }
-    for saved in number_edges(SAVED_TEXT) {
+    for saved in number_edges(SAVED_TEXT).into_iter().chain(lines_inserted(SAVED_TEXT)) {
         comparison.check_state(b"", &saved)?;
     }
     for line in STEP_LINES {
@@ -70,6 +74,16 @@ fn compare_long_inputs(comparison: &mut Comparison) -> Compared {
     comparison.respond(&input(b"", &shortest_steps))
 }
 
+/// The steps handed to a run have the same limit, and it is asked first.
+fn compare_long_steps(comparison: &mut Comparison) -> Compared {
+    for length in [LONGEST_INPUT - 1, LONGEST_INPUT, LONGEST_INPUT + 1] {
+        comparison.run_steps(b"", FRESH, &padded(b"", length))?;
+        comparison.run_steps(b"(", FRESH, &padded(b"", length))?;
+        comparison.run_steps(b"", b"(", &vec![b'('; length])?;
+    }
+    Ok(())
+}
+
 /// Steps are added until the text has the length.
 fn padded(start: &[u8], length: usize) -> Vec<u8> {
     let (shorter, longer) = (b"(finish 0)\n", b"(finish 10)\n");
@@ -104,5 +118,5 @@ fn compare_fullest_state(comparison: &mut Comparison) -> Compared {
 }
 
 fn compare_sweep(comparison: &mut Comparison, sweep: Sweep) -> Compared {
-    comparison.run_steps(&sweep.rules, &sweep.state, &sweep.steps)
+    comparison.run_in_pieces(&sweep.rules, &sweep.state, &sweep.pieces)
 }

@@ -64,7 +64,8 @@ impl Texts {
     fn compare_whole(&self, comparison: &mut Comparison, random: &mut Random) -> Compared {
         comparison.respond(&input(&self.rules, &self.steps))?;
         comparison.run_steps(&self.rules, &self.start, &self.steps)?;
-        let pieces = pieces(random, &self.steps);
+        let cut = if self.length <= FEW_STEPS && random.percent(20) { 100 } else { 10 };
+        let pieces = pieces(random, &self.steps, cut);
         comparison.run_in_pieces(&self.rules, &self.start, &pieces)?;
         comparison.check_rules(&self.rules)?;
         comparison.check_state(&self.rules, &self.end)?;
@@ -105,11 +106,12 @@ fn length(random: &mut Random, start: &State) -> usize {
     }
 }
 
-/// The lines of the steps, cut at random places; some pieces are empty.
-fn pieces(random: &mut Random, steps: &[u8]) -> Vec<Vec<u8>> {
+/// The lines of the steps, cut before each with a chance in percent; the last
+/// piece is empty.
+fn pieces(random: &mut Random, steps: &[u8], cut: usize) -> Vec<Vec<u8>> {
     let mut pieces = vec![Vec::new()];
     for line in steps.split_inclusive(|&byte| byte == b'\n') {
-        if random.percent(10) {
+        if random.percent(cut) {
             pieces.push(Vec::new());
         }
         pieces.last_mut().expect("there is a first piece").extend_from_slice(line);

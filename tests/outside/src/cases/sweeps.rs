@@ -7,7 +7,8 @@ use crate::plain::ranges::{METRES, ROLES, TIMES};
 pub struct Sweep {
     pub rules: Vec<u8>,
     pub state: Vec<u8>,
-    pub steps: Vec<u8>,
+    /// The steps, in pieces that are not too long to be read.
+    pub pieces: Vec<Vec<u8>>,
 }
 
 const TERMS: [&str; 32] = [
@@ -81,6 +82,7 @@ const SIDES: [&str; 32] = [
 ];
 
 const RANDOM_TIMES: usize = 1500;
+const EVENTS_OF_A_PIECE: usize = 100;
 
 pub fn calendar_sweep() -> Sweep {
     let times = times();
@@ -100,11 +102,12 @@ fn sweep(family: &str, fields: &[&str], events: impl Iterator<Item = String>) ->
     let assigned = ROLES.map(|role| format!("(assigned 0 {role})\n"));
     let tries: String = ROLES.map(|role| format!("(activate 0 {role})\n")).collect();
     let state = format!("(now 0)\n{}(open 0 0)\n", assigned.collect::<String>());
-    let steps = events.map(|event| event + &tries);
+    let steps: Vec<String> = events.map(|event| event + &tries).collect();
+    let pieces = steps.chunks(EVENTS_OF_A_PIECE).map(|piece| piece.concat().into_bytes());
     Sweep {
         rules: rules.collect::<String>().into_bytes(),
         state: state.into_bytes(),
-        steps: steps.collect::<String>().into_bytes(),
+        pieces: pieces.collect(),
     }
 }
 

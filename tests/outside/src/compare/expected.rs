@@ -3,6 +3,7 @@
 use super::Shown;
 use crate::plain::form::Bad;
 use crate::plain::gate::{self, Watch};
+use crate::plain::ranges::LONGEST_INPUT;
 use crate::plain::rule_text::read_rules;
 use crate::plain::rules::Rule;
 use crate::plain::state::State;
@@ -27,12 +28,16 @@ pub fn accepted_state(rules: &[u8], state: &[u8]) -> Result<(Vec<Rule>, State), 
     Ok((rules, state))
 }
 
+/// Steps as long as a program's input that is refused are refused, "before all else".
 pub fn expected_run(
     rules: &[u8],
     state: &[u8],
     steps: &[u8],
     watch: &mut Watch,
 ) -> Result<Run, Refusal> {
+    if steps.len() > LONGEST_INPUT {
+        return Err(Refusal { number: 19, text: Text::Steps, place: 0 });
+    }
     let (rules, state) = accepted_state(rules, state)?;
     let steps = read_steps(steps).map_err(|bad| about(Text::Steps, bad))?;
     let (answers, state) = gate::run(&rules, state, &steps, watch);

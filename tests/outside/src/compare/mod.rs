@@ -6,11 +6,13 @@ mod space;
 use crate::counts::{Counts, ANSWERS_SPACE, INPUT, RULES, STATE, STATE_SPACE, STEPS_TEXT};
 use crate::generate::random::Random;
 use crate::plain::form::Bad;
+use crate::plain::gate;
 use crate::plain::program;
 use crate::plain::rules::Rule;
 use crate::plain::state_text::write_state;
+use crate::plain::step_text::{read_steps, write_answers};
 use expected::{accepted_state, expected_run, no_room, Run};
-use pitch_gate::{Lengths, Ran, Refusal, Text};
+use pitch_gate::{Lengths, Refusal, Text};
 use space::Space;
 use std::fmt::Debug;
 
@@ -70,7 +72,7 @@ impl Comparison {
         let checked = read.as_ref().map(drop).map_err(|refusal| *refusal);
         self.note("check_state", &list, checked.err());
         self.same("check_state", &texts, &checked, &pitch_gate::check_state(rules, state))?;
-        let copy = read.map(|(_, state)| write_state(&state)).unwrap_or_default();
+        let copy = read.map_or(state.to_vec(), |(_, state)| write_state(&state));
         for room in rooms(copy.len()) {
             let mut space = self.space(room);
             let expected = checked.and(no_room(room, copy.len(), Text::StateSpace));
@@ -110,12 +112,10 @@ impl Comparison {
             Ok(run) => (run.answers.len(), run.state.len()),
             Err(_) => (10, 10),
         };
-        let rooms = [(answers, next), (answers + 9, next + 9), (0, 0)];
-        let one_short = [(answers.wrapping_sub(1), next), (answers, next - 1)];
-        for (answers, next) in rooms.into_iter().chain(one_short) {
-            if answers != usize::MAX {
-                self.run_steps_into(texts, &expected, answers, next)?;
-            }
+        let rooms = [(answers, next), (answers + 9, next + 9), (0, 0), (answers, next - 1)];
+        let answers_short = answers.checked_sub(1).map(|short| (short, next));
+        for (answers, next) in rooms.into_iter().chain(answers_short) {
+            self.run_steps_into(texts, &expected, answers, next)?;
         }
         Ok(())
     }
@@ -148,31 +148,25 @@ impl Comparison {
     }
 
     /// The library gets the steps in pieces, with the state handed over as a
-    /// text; the plain gate runs them at once.
-    pub fn run_in_pieces(&mut self, rules: &[u8], state: &[u8], pieces: &[Vec<u8>]) -> Compared {
-        let steps = pieces.concat();
-        let Ok(expected) = expected_run(rules, state, &steps, &mut |_, _, _| {}) else {
-            return Ok(());
-        };
-        let mut found = Run { answers: Vec::new(), state: state.to_vec() };
+    /// text; the plain gate runs on. Compared after each piece.
+    pub fn run_in_pieces(&mut self, rules: &[u8], start: &[u8], pieces: &[Vec<u8>]) -> Compared {
+        let (list, mut state) = accepted_state(rules, start).expect("the start obeys the rules");
+        let mut handed_over = start.to_vec();
         for piece in pieces {
-            match pitch_gate::run_steps(rules, &found.state, piece) {
-                Ok(Ran { answers, state }) => {
-                    found.answers.extend(answers);
-                    found.state = state;
-                }
-                Err(refusal) => {
-                    let texts = [rules, &found.state, piece];
-                    return self.same(
-                        "run_steps",
-                        &texts,
-                        &"no refusal",
-                        &refusal.to_string().as_str(),
-                    );
-                }
-            }
+            let steps = read_steps(piece).expect("a piece is whole lines");
+            let counts = &mut self.counts;
+            let (answers, next) = gate::run(&list, state, &steps, &mut |rules, step, outcome| {
+                counts.step(rules, step, outcome);
+            });
+            let run = Run { answers: write_answers(&answers), state: write_state(&next) };
+            let texts: [&[u8]; 3] = [rules, &handed_over, piece];
+            let found = pitch_gate::run_steps(rules, &handed_over, piece).map(Run::from);
+            self.counts.accepted("run_steps of a piece");
+            self.same("run_steps of a piece", &texts, &Ok(run.clone()), &found)?;
+            handed_over = run.state;
+            state = next;
         }
-        self.same("run_steps in pieces", &[rules, state, &steps], &expected, &found)
+        Ok(())
     }
 
     fn space(&mut self, length: usize) -> Space {

@@ -58,6 +58,21 @@ pub fn number_edges(text: &str) -> Vec<Vec<u8>> {
     edges
 }
 
+/// Each line with each of its numbers set to each value in turn, inserted at
+/// each place of the text.
+pub fn lines_inserted(text: &str) -> Vec<Vec<u8>> {
+    let lines: Vec<&[u8]> = text.as_bytes().split_inclusive(|&byte| byte == b'\n').collect();
+    let mut texts = Vec::new();
+    for inserted in text.split_inclusive('\n').flat_map(number_edges) {
+        for place in 0..=lines.len() {
+            texts.push(
+                [lines[..place].concat(), inserted.clone(), lines[place..].concat()].concat(),
+            );
+        }
+    }
+    texts
+}
+
 fn values(digits: &[u8]) -> Vec<Vec<u8>> {
     let mut values: Vec<Vec<u8>> =
         EDGE_VALUES.iter().map(|value| value.to_string().into_bytes()).collect();
