@@ -8,7 +8,7 @@ use outside::cases::{compare_always, compare_seed};
 use outside::compare::{Compared, Comparison, Difference};
 use std::process::ExitCode;
 
-const DEFAULT_SEEDS: u64 = 2000;
+const DEFAULT_SEEDS: u64 = 1000;
 
 struct Options {
     seeds: u64,

@@ -3,7 +3,9 @@
 use super::sweeps::{calendar_sweep, place_sweep, Sweep};
 use super::{input, STEPS_LINE};
 use crate::compare::{Compared, Comparison};
-use crate::generate::edges::{lines_inserted, number_edges, RULE_LINES, SAVED_TEXT, STEP_LINES};
+use crate::generate::edges::{
+    lines_inserted, number_edges, two_number_edges, RULE_LINES, SAVED_TEXT, STEP_LINES,
+};
 use crate::generate::states::fullest_state;
 use crate::plain::ranges::LONGEST_INPUT;
 use crate::plain::state_text::write_state;
@@ -30,23 +32,27 @@ pub fn compare_always(comparison: &mut Comparison) -> Compared {
 
 fn compare_number_edges(comparison: &mut Comparison) -> Compared {
     for line in RULE_LINES {
-        for rules in number_edges(line) {
+        for rules in edges(line) {
             comparison.check_rules(&rules)?;
             comparison.check_rules(&[FIRST_RULE, &rules].concat())?;
             comparison.respond(&input(&rules, b""))?;
         }
     }
-    for saved in number_edges(SAVED_TEXT).into_iter().chain(lines_inserted(SAVED_TEXT)) {
+    for saved in edges(SAVED_TEXT).chain(lines_inserted(SAVED_TEXT)) {
         comparison.check_state(b"", &saved)?;
     }
     for line in STEP_LINES {
-        for steps in number_edges(line) {
+        for steps in edges(line) {
             comparison.respond(&input(b"", &steps))?;
             comparison.run_steps(b"", FRESH, &steps)?;
             comparison.run_steps(b"", SAVED_TEXT.as_bytes(), &steps)?;
         }
     }
     Ok(())
+}
+
+fn edges(text: &str) -> impl Iterator<Item = Vec<u8>> {
+    number_edges(text).into_iter().chain(two_number_edges(text))
 }
 
 /// 128 rules are accepted, the 129th is refused.

@@ -58,6 +58,24 @@ pub fn number_edges(text: &str) -> Vec<Vec<u8>> {
     edges
 }
 
+/// The text with each two of its numbers set to each two of a few values, most
+/// of them bad: which cause counts, and which line.
+pub fn two_number_edges(text: &str) -> Vec<Vec<u8>> {
+    const VALUES: [&[u8]; 7] = [b"1", b"4", b"32", b"129", b"-1", b"01", b"12345678901"];
+    let text = text.as_bytes();
+    let numbers = numbers(text);
+    let mut edges = Vec::new();
+    for (index, later) in numbers.iter().enumerate() {
+        for value in VALUES {
+            let changed = replaced(text, later.clone(), value);
+            for earlier in &numbers[..index] {
+                edges.extend(VALUES.map(|value| replaced(&changed, earlier.clone(), value)));
+            }
+        }
+    }
+    edges
+}
+
 /// Each line with each of its numbers set to each value in turn, inserted at
 /// each place of the text.
 pub fn lines_inserted(text: &str) -> Vec<Vec<u8>> {
