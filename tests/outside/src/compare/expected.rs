@@ -1,0 +1,70 @@
+//! What the plain gate makes of the texts of a call.
+
+use super::Shown;
+use crate::plain::form::Bad;
+use crate::plain::gate::{self, Watch};
+use crate::plain::ranges::LONGEST_INPUT;
+use crate::plain::rule_text::read_rules;
+use crate::plain::rules::Rule;
+use crate::plain::state::State;
+use crate::plain::state_text::{read_state, write_state};
+use crate::plain::step_text::{read_steps, write_answers};
+use pitch_gate::{Ran, Refusal, Text};
+use std::fmt;
+
+#[derive(Clone, Default, PartialEq)]
+pub struct Run {
+    pub answers: Vec<u8>,
+    pub state: Vec<u8>,
+}
+
+pub fn accepted_rules(rules: &[u8]) -> Result<Vec<Rule>, Refusal> {
+    read_rules(rules).map_err(|bad| about(Text::Rules, bad))
+}
+
+pub fn accepted_state(rules: &[u8], state: &[u8]) -> Result<(Vec<Rule>, State), Refusal> {
+    let rules = accepted_rules(rules)?;
+    let state = read_state(&rules, state).map_err(|bad| about(Text::State, bad))?;
+    Ok((rules, state))
+}
+
+/// Steps as long as a program's input that is refused are refused, "before all else".
+pub fn expected_run(
+    rules: &[u8],
+    state: &[u8],
+    steps: &[u8],
+    watch: &mut Watch,
+) -> Result<Run, Refusal> {
+    if steps.len() > LONGEST_INPUT {
+        return Err(Refusal { number: 19, text: Text::Steps, place: 0 });
+    }
+    let (rules, state) = accepted_state(rules, state)?;
+    let steps = read_steps(steps).map_err(|bad| about(Text::Steps, bad))?;
+    let (answers, state) = gate::run(&rules, state, &steps, watch);
+    Ok(Run { answers: write_answers(&answers), state: write_state(&state) })
+}
+
+/// The length written, or 18 where the room is too short for it.
+pub fn no_room(room: usize, length: usize, text: Text) -> Result<usize, Refusal> {
+    if room < length {
+        Err(Refusal { number: 18, text, place: 0 })
+    } else {
+        Ok(length)
+    }
+}
+
+fn about(text: Text, Bad { number, place }: Bad) -> Refusal {
+    Refusal { number, text, place }
+}
+
+impl From<Ran> for Run {
+    fn from(ran: Ran) -> Run {
+        Run { answers: ran.answers, state: ran.state }
+    }
+}
+
+impl fmt::Debug for Run {
+    fn fmt(&self, out: &mut fmt::Formatter<'_>) -> fmt::Result {
+        write!(out, "answers\n{:?}state\n{:?}", Shown(&self.answers), Shown(&self.state))
+    }
+}

@@ -1,0 +1,201 @@
+//! How often each kind of case was met, and the kinds that must be met.
+
+use crate::generate::damage::DAMAGES;
+use crate::plain::gate::{Answer, Outcome};
+use crate::plain::rules::Rule;
+use crate::plain::selected::selects;
+use crate::plain::steps::Step;
+use std::collections::BTreeMap;
+
+/// A group, a name in it, and a number where the kind has one.
+type Kind = (&'static str, &'static str, u64);
+
+#[derive(Default)]
+pub struct Counts {
+    kinds: BTreeMap<Kind, u64>,
+    pub bytes: u64,
+}
+
+/// Stands for a granted step and for a call that refuses nothing.
+pub const NOT_REFUSED: u64 = 0;
+
+const ANSWER: &str = "answer";
+const STEP: &str = "step";
+const SELECTED: &str = "rule selected";
+const BROKEN: &str = "lowest rule of a 30";
+const SAVED_BROKEN: &str = "lowest rule of a 17";
+const SEVERAL_BROKEN: &str = "30 with two broken rules or more";
+const ENDED: &str = "event that ended two pairs or more";
+const ENDED_SEARCHED: &str = "event that ended two pairs or more, every part looked at";
+const ENDED_IN_ROUNDS: &str = "event that ended pairs in two rounds or more";
+const DAMAGED: &str = "damaged text";
+
+const EVENTS: [&str; 4] = ["close", "move", "lost", "clock"];
+const FAMILIES: [&str; 19] = [
+    "before",
+    "max-users",
+    "max-roles",
+    "max-permissions",
+    "max-active",
+    "apart",
+    "apart-active",
+    "needs",
+    "during dates",
+    "during week",
+    "during months",
+    "during nth",
+    "during every",
+    "at inside circle",
+    "at inside box",
+    "at outside circle",
+    "at outside box",
+    "two-hands",
+    "same-hand",
+];
+
+/// The column "Checks" of the table, with 20 before all.
+const STEPS: [(&str, &[u64]); 13] = [
+    ("assign", &[20, 24, 30]),
+    ("withdraw", &[20, 25, 27, 30]),
+    ("grant", &[20, 24, 30]),
+    ("take", &[20, 25]),
+    ("open", &[20, 22]),
+    ("activate", &[20, 23, 24, 26, 30]),
+    ("deactivate", &[20, 23, 25, 30]),
+    ("access", &[20, 23, 28, 30]),
+    ("finish", &[20]),
+    ("close", &[20, 23]),
+    ("move", &[20, 23]),
+    ("lost", &[20, 23]),
+    ("clock", &[20, 21]),
+];
+
+pub const INPUT: &str = "the input";
+pub const RULES: &str = "the rule list";
+pub const STATE: &str = "the saved state";
+pub const STEPS_TEXT: &str = "the steps";
+pub const ANSWERS_SPACE: &str = "the space for the answers";
+pub const STATE_SPACE: &str = "the space for the state";
+const NOTHING: &str = "";
+
+/// The refusals of each call, by the text that they are about.
+const CALLS: [(&str, &str, &[u64]); 21] = [
+    ("respond", NOTHING, &[NOT_REFUSED]),
+    ("respond", INPUT, &[10, 11, 12, 13, 14, 19]),
+    ("respond", ANSWERS_SPACE, &[18]),
+    ("check_rules", NOTHING, &[NOT_REFUSED]),
+    ("check_rules", RULES, &[10, 11, 12, 13, 14]),
+    ("check_state", NOTHING, &[NOT_REFUSED]),
+    ("check_state", RULES, &[10, 11, 12, 13, 14]),
+    ("check_state", STATE, &[10, 11, 15, 16, 17]),
+    ("copy_state", NOTHING, &[NOT_REFUSED]),
+    ("copy_state", RULES, &[10, 11, 12, 13, 14]),
+    ("copy_state", STATE, &[10, 11, 15, 16, 17]),
+    ("copy_state", STATE_SPACE, &[18]),
+    ("fresh_state", NOTHING, &[NOT_REFUSED]),
+    ("fresh_state", STATE_SPACE, &[18]),
+    ("run_steps", NOTHING, &[NOT_REFUSED]),
+    ("run_steps", RULES, &[10, 11, 12, 13, 14]),
+    ("run_steps", STATE, &[10, 11, 15, 16, 17]),
+    ("run_steps", STEPS_TEXT, &[10, 19]),
+    ("run_steps", ANSWERS_SPACE, &[18]),
+    ("run_steps", STATE_SPACE, &[18]),
+    ("run_steps of a piece", NOTHING, &[NOT_REFUSED]),
+];
+
+impl Counts {
+    pub fn accepted(&mut self, call: &'static str) {
+        self.add((call, NOTHING, NOT_REFUSED));
+    }
+
+    pub fn refused(&mut self, call: &'static str, text: &'static str, number: u64) {
+        self.add((call, text, number));
+    }
+
+    pub fn damaged(&mut self, damage: &'static str) {
+        self.add((DAMAGED, damage, 0));
+    }
+
+    pub fn saved_broken(&mut self, rule: &Rule) {
+        self.add((SAVED_BROKEN, rule.family(), 0));
+    }
+
+    pub fn step(&mut self, rules: &[Rule], step: &Step, outcome: &Outcome) {
+        let number = match outcome.answer {
+            Answer::Yes { .. } => NOT_REFUSED,
+            Answer::No { number, .. } => number,
+        };
+        self.add((ANSWER, NOTHING, number));
+        self.add((STEP, step.name(), number));
+        match outcome.answer {
+            Answer::Yes { ended, .. } => self.ended(step, ended, outcome),
+            Answer::No { number: 30, rule, .. } => {
+                self.add((BROKEN, rules[rule as usize - 1].family(), 0));
+                if outcome.broken >= 2 {
+                    self.add((SEVERAL_BROKEN, NOTHING, 0));
+                }
+            }
+            Answer::No { .. } => return,
+        }
+        for rule in rules.iter().filter(|rule| selects(step, rule)) {
+            self.add((SELECTED, rule.family(), 0));
+        }
+    }
+
+    fn ended(&mut self, step: &Step, ended: u64, outcome: &Outcome) {
+        if !step.is_event() {
+            return;
+        }
+        if ended >= 2 {
+            self.add((ENDED, step.name(), 0));
+        }
+        if ended >= 2 && outcome.ending.searched {
+            self.add((ENDED_SEARCHED, step.name(), 0));
+        }
+        if outcome.ending.rounds >= 2 {
+            self.add((ENDED_IN_ROUNDS, step.name(), 0));
+        }
+    }
+
+    fn add(&mut self, kind: Kind) {
+        *self.kinds.entry(kind).or_default() += 1;
+    }
+
+    /// The kinds that can occur and were not met.
+    pub fn missing(&self) -> Vec<String> {
+        let kinds = kinds_to_meet();
+        kinds.iter().filter(|kind| !self.kinds.contains_key(*kind)).map(written).collect()
+    }
+
+    pub fn lines(&self) -> Vec<String> {
+        let kinds = self.kinds.iter();
+        kinds.map(|(kind, count)| format!("{count:>12}  {}", written(kind))).collect()
+    }
+}
+
+fn written((group, name, number): &Kind) -> String {
+    match (*group, *number) {
+        (ANSWER | STEP, NOT_REFUSED) => format!("{group} {name}: yes"),
+        (_, 0) => format!("{group}: {}", if name.is_empty() { "met" } else { name }),
+        (_, number) => format!("{group} {name}: {number}"),
+    }
+}
+
+fn kinds_to_meet() -> Vec<Kind> {
+    let mut kinds: Vec<Kind> = vec![(SEVERAL_BROKEN, NOTHING, 0)];
+    for (call, text, numbers) in CALLS {
+        kinds.extend(numbers.iter().map(|&number| (call, text, number)));
+    }
+    for (step, numbers) in STEPS {
+        kinds.push((STEP, step, NOT_REFUSED));
+        kinds.extend(numbers.iter().map(|&number| (STEP, step, number)));
+    }
+    for family in FAMILIES {
+        kinds.extend([SELECTED, BROKEN, SAVED_BROKEN].map(|group| (group, family, 0)));
+    }
+    for event in EVENTS {
+        kinds.extend([ENDED, ENDED_SEARCHED, ENDED_IN_ROUNDS].map(|group| (group, event, 0)));
+    }
+    kinds.extend(DAMAGES.iter().map(|&(damage, _)| (DAMAGED, damage, 0)));
+    kinds
+}

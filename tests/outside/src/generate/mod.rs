@@ -1,0 +1,10 @@
+//! What is compared: rule lists, states and steps that make sense together,
+//! and texts that are damaged.
+
+pub mod damage;
+pub mod edges;
+pub mod random;
+pub mod rule_lists;
+pub mod states;
+pub mod step_lists;
+pub mod world;

@@ -1,0 +1,334 @@
+//! Steps that make sense in the state they meet, most of the time.
+
+use super::random::Random;
+use super::rule_lists::{metre, time_at_an_edge};
+use super::world::World;
+use crate::plain::calendar::{Term, SECONDS_OF_DAY};
+use crate::plain::gate::{decide, Answer};
+use crate::plain::places::{Position, Shape, Side};
+use crate::plain::ranges::TIMES;
+use crate::plain::rules::Rule;
+use crate::plain::state::State;
+use crate::plain::steps::Step;
+
+/// The steps, and the state that they lead to.
+pub fn step_list(
+    random: &mut Random,
+    world: &World,
+    rules: &[Rule],
+    start: &State,
+    length: usize,
+) -> (Vec<Step>, State) {
+    let mut source = Source { random, world, rules, state: start.clone() };
+    let steps = (0..length).map(|_| source.next()).collect();
+    (steps, source.state)
+}
+
+struct Source<'case> {
+    random: &'case mut Random,
+    world: &'case World,
+    rules: &'case [Rule],
+    state: State,
+}
+
+#[derive(Clone, Copy)]
+enum Kind {
+    Assign,
+    Withdraw,
+    Grant,
+    Take,
+    Open,
+    Activate,
+    Deactivate,
+    Access,
+    Finish,
+    Close,
+    Move,
+    Lost,
+    Clock,
+}
+
+/// How often each kind comes: requests that build up more often than events
+/// that end.
+const KINDS: [(Kind, usize); 13] = [
+    (Kind::Assign, 12),
+    (Kind::Withdraw, 3),
+    (Kind::Grant, 6),
+    (Kind::Take, 2),
+    (Kind::Open, 9),
+    (Kind::Activate, 34),
+    (Kind::Deactivate, 4),
+    (Kind::Access, 9),
+    (Kind::Finish, 2),
+    (Kind::Close, 2),
+    (Kind::Move, 8),
+    (Kind::Lost, 2),
+    (Kind::Clock, 4),
+];
+
+impl Source<'_> {
+    fn next(&mut self) -> Step {
+        let step = self.choose();
+        self.state = decide(self.rules, &self.state, &step).state;
+        step
+    }
+
+    fn choose(&mut self) -> Step {
+        let start = self.world.start;
+        if self.state.time < start && self.random.percent(10) {
+            return Step::Clock { time: start };
+        }
+        let step = match self.random.below(100) {
+            0..=81 => self.likely_of_some_kind(),
+            _ => None,
+        };
+        let step = step.unwrap_or_else(|| {
+            let kind = self.kind();
+            self.any(kind)
+        });
+        if self.random.percent(2) {
+            self.with_a_number_outside(step)
+        } else {
+            step
+        }
+    }
+
+    fn likely_of_some_kind(&mut self) -> Option<Step> {
+        (0..8).find_map(|_| {
+            let kind = self.kind();
+            let too_early = self.state.active.is_empty() && ends_roles(kind);
+            if too_early {
+                None
+            } else {
+                self.likely(kind)
+            }
+        })
+    }
+
+    fn kind(&mut self) -> Kind {
+        let total: usize = KINDS.iter().map(|(_, weight)| weight).sum();
+        let mut left = self.random.below(total);
+        for (kind, weight) in KINDS {
+            if left < weight {
+                return kind;
+            }
+            left -= weight;
+        }
+        unreachable!("the weights add up to the total")
+    }
+
+    /// A step that no check before 30 refuses, where one is found.
+    fn likely(&mut self, kind: Kind) -> Option<Step> {
+        match kind {
+            Kind::Withdraw => self.held_assignment(),
+            Kind::Take => {
+                let granted = self.random.pick_any(&Vec::from_iter(&self.state.granted));
+                granted.map(|&(role, permission)| Step::Take { role, permission })
+            }
+            Kind::Activate => self.new_activation(),
+            Kind::Deactivate => {
+                let active = self.random.pick_any(&Vec::from_iter(&self.state.active));
+                active.map(|&(session, role)| Step::Deactivate { session, role })
+            }
+            Kind::Access => self.carried_access(),
+            Kind::Close => self.open_session().map(|session| Step::Close { session }),
+            Kind::Lost => self.open_session().map(|session| Step::Lost { session }),
+            Kind::Move => {
+                let session = self.open_session()?;
+                Some(Step::Move { session, position: self.position() })
+            }
+            Kind::Open => self.new_session(),
+            _ => self.not_refused(kind),
+        }
+    }
+
+    /// Of a few steps of the kind, one that is not refused before 30.
+    fn not_refused(&mut self, kind: Kind) -> Option<Step> {
+        let steps: Vec<Step> = (0..6).map(|_| self.any(kind)).collect();
+        steps.into_iter().find(|step| step.refusal(&self.state).is_none())
+    }
+
+    fn held_assignment(&mut self) -> Option<Step> {
+        let held = Vec::from_iter(&self.state.assigned);
+        let &(user, role) = self.random.pick_any(&held)?;
+        Some(Step::Withdraw { user, role })
+    }
+
+    /// A user who is assigned a role is chosen more often than another.
+    fn new_session(&mut self) -> Option<Step> {
+        let step = self.not_refused(Kind::Open)?;
+        let Step::Open { session, .. } = step else { return Some(step) };
+        let held = Vec::from_iter(&self.state.assigned);
+        let holder = self.random.pick_any(&held).map(|&(user, _)| Step::Open { session, user });
+        Some(holder.unwrap_or(step))
+    }
+
+    fn open_session(&mut self) -> Option<i64> {
+        let open: Vec<i64> = self.state.sessions.keys().copied().collect();
+        self.random.pick_any(&open)
+    }
+
+    /// One that is granted, where a few tries find it.
+    fn new_activation(&mut self) -> Option<Step> {
+        let steps: Vec<Step> = (0..4).filter_map(|_| self.possible_activation()).collect();
+        let is_granted = |step: &&Step| {
+            matches!(decide(self.rules, &self.state, step).answer, Answer::Yes { .. })
+        };
+        steps.iter().find(is_granted).or(steps.first()).cloned()
+    }
+
+    fn possible_activation(&mut self) -> Option<Step> {
+        let session = self.open_session()?;
+        let user = self.state.sessions[&session].user;
+        let assigned = self.state.assigned.range((user, 0)..(user + 1, 0));
+        let roles: Vec<i64> = assigned
+            .map(|&(_, role)| role)
+            .filter(|&role| !self.state.is_active(session, role))
+            .collect();
+        self.random.pick_any(&roles).map(|role| Step::Activate { session, role })
+    }
+
+    fn carried_access(&mut self) -> Option<Step> {
+        let active = Vec::from_iter(&self.state.active);
+        let &(session, role) = self.random.pick_any(&active)?;
+        let granted = self.state.granted.range((role, 0)..(role + 1, 0));
+        let permissions: Vec<i64> = granted.map(|&(_, permission)| permission).collect();
+        let permission = self.random.pick_any(&permissions)?;
+        let object = *self.random.pick(&self.world.objects);
+        Some(Step::Access { session, permission, object })
+    }
+
+    /// A step of the kind with any numbers of the world.
+    fn any(&mut self, kind: Kind) -> Step {
+        let world = self.world;
+        let user = *self.random.pick(&world.users);
+        let role = *self.random.pick(&world.roles);
+        let permission = *self.random.pick(&world.permissions);
+        let session = *self.random.pick(&world.sessions);
+        let object = *self.random.pick(&world.objects);
+        match kind {
+            Kind::Assign => Step::Assign { user, role },
+            Kind::Withdraw => Step::Withdraw { user, role },
+            Kind::Grant => Step::Grant { role, permission },
+            Kind::Take => Step::Take { role, permission },
+            Kind::Open => Step::Open { session, user },
+            Kind::Activate => Step::Activate { session, role },
+            Kind::Deactivate => Step::Deactivate { session, role },
+            Kind::Access => Step::Access { session, permission, object },
+            Kind::Finish => Step::Finish { object },
+            Kind::Close => Step::Close { session },
+            Kind::Move => Step::Move { session, position: self.position() },
+            Kind::Lost => Step::Lost { session },
+            Kind::Clock => Step::Clock { time: self.time() },
+        }
+    }
+
+    fn time(&mut self) -> i64 {
+        let now = self.state.time;
+        let terms: Vec<_> = self.rules.iter().filter_map(term_of).collect();
+        let time = match self.random.below(20) {
+            0 => now - 1,
+            1 => now,
+            2..=3 => now + self.random.between(1, 3600),
+            4 => now + self.random.between(1, 3 * SECONDS_OF_DAY),
+            5..=16 if !terms.is_empty() => {
+                let term = *self.random.pick(&terms);
+                time_at_an_edge(self.random, term, now)
+            }
+            _ => now + self.random.between(0, 60) * 60,
+        };
+        time.clamp(*TIMES.start(), *TIMES.end())
+    }
+
+    /// Half of the time one at which more of the `at` rules hold than at others.
+    fn position(&mut self) -> Position {
+        let tries = if self.random.percent(50) { 5 } else { 1 };
+        let positions: Vec<Position> = (0..tries).map(|_| self.any_position()).collect();
+        let sides: Vec<Side> = self.rules.iter().filter_map(side_of).collect();
+        let kept =
+            |position: &Position| sides.iter().filter(|side| side.holds(Some(*position))).count();
+        positions.into_iter().max_by_key(kept).expect("there is a try")
+    }
+
+    fn any_position(&mut self) -> Position {
+        let sides: Vec<Side> = self.rules.iter().filter_map(side_of).collect();
+        match self.random.pick_any(&sides) {
+            Some(side) if self.random.percent(85) => near_an_edge(self.random, side.shape()),
+            _ => Position { x: self.random.between(-30, 30), y: self.random.between(-30, 30) },
+        }
+    }
+
+    fn with_a_number_outside(&mut self, step: Step) -> Step {
+        let outside = *self.random.pick(&[64, 65, 100, 4_294_967_296, 9_999_999_999]);
+        match step {
+            Step::Assign { user, .. } => Step::Assign { user, role: outside },
+            Step::Withdraw { role, .. } => Step::Withdraw { user: outside, role },
+            Step::Grant { role, .. } => Step::Grant { role, permission: outside },
+            Step::Take { permission, .. } => Step::Take { role: outside, permission },
+            Step::Open { session, .. } => Step::Open { session, user: outside },
+            Step::Activate { role, .. } => Step::Activate { session: outside, role },
+            Step::Deactivate { session, .. } => Step::Deactivate { session, role: outside },
+            Step::Access { session, permission, .. } => {
+                Step::Access { session, permission, object: outside }
+            }
+            Step::Finish { .. } => Step::Finish { object: outside },
+            Step::Close { .. } => Step::Close { session: outside },
+            Step::Lost { .. } => Step::Lost { session: outside },
+            Step::Move { session, position } => {
+                let x = *self.random.pick(&[-1_000_001, 1_000_001, 9_999_999_999]);
+                Step::Move { session, position: Position { x, ..position } }
+            }
+            Step::Clock { .. } => {
+                Step::Clock { time: *self.random.pick(&[TIMES.end() + 1, 9_999_999_999]) }
+            }
+        }
+    }
+}
+
+fn term_of(rule: &Rule) -> Option<&Term> {
+    match rule {
+        Rule::During { term, .. } => Some(term),
+        _ => None,
+    }
+}
+
+fn side_of(rule: &Rule) -> Option<Side> {
+    match rule {
+        Rule::At { side, .. } => Some(*side),
+        _ => None,
+    }
+}
+
+fn ends_roles(kind: Kind) -> bool {
+    matches!(
+        kind,
+        Kind::Withdraw | Kind::Take | Kind::Deactivate | Kind::Close | Kind::Lost | Kind::Clock
+    )
+}
+
+fn near_an_edge(random: &mut Random, shape: Shape) -> Position {
+    let (x, y) = match shape {
+        Shape::Circle { centre, radius } => near_a_circle(random, centre, radius),
+        Shape::Box { low, high } => {
+            let x = *random.pick(&[low.x, high.x, low.x - 1, high.x + 1, (low.x + high.x) / 2]);
+            let y = *random.pick(&[low.y, high.y, low.y - 1, high.y + 1, (low.y + high.y) / 2]);
+            (x, y)
+        }
+    };
+    Position { x: metre(x), y: metre(y) }
+}
+
+/// Three fifths and four fifths of a radius are on the circle where both are whole.
+fn near_a_circle(random: &mut Random, centre: Position, radius: i64) -> (i64, i64) {
+    let offsets = [
+        (0, 0),
+        (radius, 0),
+        (0, -radius),
+        (radius * 3 / 5, radius * 4 / 5),
+        (-radius * 4 / 5, radius * 3 / 5),
+        (radius / 2, -radius / 2),
+    ];
+    let (across, along) = *random.pick(&offsets);
+    let nudge = *random.pick(&[0, 0, 1, -1]);
+    (centre.x + across + nudge, centre.y + along)
+}

@@ -1,0 +1,8 @@
+//! A second reading of the scope document: a gate in plain Rust, which takes
+//! nothing from the proved one, and what is needed to compare the two.
+
+pub mod cases;
+pub mod compare;
+pub mod counts;
+pub mod generate;
+pub mod plain;

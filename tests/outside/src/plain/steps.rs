@@ -1,0 +1,149 @@
+//! The steps of the table: what makes one refused before 30, and its target.
+
+use super::places::Position;
+use super::ranges::{METRES, OBJECTS, PERMISSIONS, ROLES, SESSIONS, TIMES, USERS};
+use super::state::{Session, State};
+
+/// The numbers are as written: any of them may be outside its range.
+#[derive(Clone, Debug, PartialEq, Eq)]
+pub enum Step {
+    Assign { user: i64, role: i64 },
+    Withdraw { user: i64, role: i64 },
+    Grant { role: i64, permission: i64 },
+    Take { role: i64, permission: i64 },
+    Open { session: i64, user: i64 },
+    Activate { session: i64, role: i64 },
+    Deactivate { session: i64, role: i64 },
+    Access { session: i64, permission: i64, object: i64 },
+    Finish { object: i64 },
+    Close { session: i64 },
+    Move { session: i64, position: Position },
+    Lost { session: i64 },
+    Clock { time: i64 },
+}
+
+impl Step {
+    pub fn is_event(&self) -> bool {
+        matches!(
+            self,
+            Step::Close { .. } | Step::Move { .. } | Step::Lost { .. } | Step::Clock { .. }
+        )
+    }
+
+    pub fn is_in_range(&self) -> bool {
+        match *self {
+            Step::Assign { user, role } | Step::Withdraw { user, role } => {
+                USERS.contains(&user) && ROLES.contains(&role)
+            }
+            Step::Grant { role, permission } | Step::Take { role, permission } => {
+                ROLES.contains(&role) && PERMISSIONS.contains(&permission)
+            }
+            Step::Open { session, user } => SESSIONS.contains(&session) && USERS.contains(&user),
+            Step::Activate { session, role } | Step::Deactivate { session, role } => {
+                SESSIONS.contains(&session) && ROLES.contains(&role)
+            }
+            Step::Access { session, permission, object } => {
+                SESSIONS.contains(&session)
+                    && PERMISSIONS.contains(&permission)
+                    && OBJECTS.contains(&object)
+            }
+            Step::Finish { object } => OBJECTS.contains(&object),
+            Step::Close { session } | Step::Lost { session } => SESSIONS.contains(&session),
+            Step::Move { session, position } => {
+                SESSIONS.contains(&session)
+                    && METRES.contains(&position.x)
+                    && METRES.contains(&position.y)
+            }
+            Step::Clock { time } => TIMES.contains(&time),
+        }
+    }
+
+    /// The first check before 30 that refuses the step, "in the order given".
+    pub fn refusal(&self, state: &State) -> Option<u64> {
+        if !self.is_in_range() {
+            return Some(20);
+        }
+        let checks: &[(u64, bool)] = match *self {
+            Step::Assign { user, role } => &[(24, state.is_assigned(user, role))],
+            Step::Withdraw { user, role } => {
+                &[(25, !state.is_assigned(user, role)), (27, state.is_active_for(user, role))]
+            }
+            Step::Grant { role, permission } => &[(24, state.carries(role, permission))],
+            Step::Take { role, permission } => &[(25, !state.carries(role, permission))],
+            Step::Open { session, .. } => &[(22, state.is_open(session))],
+            Step::Activate { session, role } => &[
+                (23, !state.is_open(session)),
+                (24, state.is_active(session, role)),
+                (26, !is_assigned_to_the_user(state, session, role)),
+            ],
+            Step::Deactivate { session, role } => {
+                &[(23, !state.is_open(session)), (25, !state.is_active(session, role))]
+            }
+            Step::Access { session, permission, .. } => &[
+                (23, !state.is_open(session)),
+                (28, !state.active_in(session).any(|role| state.carries(role, permission))),
+            ],
+            Step::Finish { .. } => &[],
+            Step::Close { session } | Step::Move { session, .. } | Step::Lost { session } => {
+                &[(23, !state.is_open(session))]
+            }
+            Step::Clock { time } => &[(21, time < state.time)],
+        };
+        checks.iter().find(|(_, refuses)| *refuses).map(|&(number, _)| number)
+    }
+
+    /// "the target: the state as if allowed"
+    pub fn target(&self, state: &State) -> State {
+        let mut target = state.clone();
+        match *self {
+            Step::Assign { user, role } => drop(target.assigned.insert((user, role))),
+            Step::Withdraw { user, role } => drop(target.assigned.remove(&(user, role))),
+            Step::Grant { role, permission } => drop(target.granted.insert((role, permission))),
+            Step::Take { role, permission } => drop(target.granted.remove(&(role, permission))),
+            Step::Open { session, user } => {
+                target.sessions.insert(session, Session { user, position: None });
+            }
+            Step::Activate { session, role } => drop(target.active.insert((session, role))),
+            Step::Deactivate { session, role } => drop(target.active.remove(&(session, role))),
+            Step::Access { session, permission, object } => {
+                let user = target.sessions[&session].user;
+                target.did.insert((object, permission, user));
+            }
+            Step::Finish { object } => target.did.retain(|&(other, _, _)| other != object),
+            Step::Close { session } => {
+                target.sessions.remove(&session);
+                target.active.retain(|&(other, _)| other != session);
+            }
+            Step::Move { session, position } => set_position(&mut target, session, Some(position)),
+            Step::Lost { session } => set_position(&mut target, session, None),
+            Step::Clock { time } => target.time = time,
+        }
+        target
+    }
+
+    pub fn name(&self) -> &'static str {
+        match self {
+            Step::Assign { .. } => "assign",
+            Step::Withdraw { .. } => "withdraw",
+            Step::Grant { .. } => "grant",
+            Step::Take { .. } => "take",
+            Step::Open { .. } => "open",
+            Step::Activate { .. } => "activate",
+            Step::Deactivate { .. } => "deactivate",
+            Step::Access { .. } => "access",
+            Step::Finish { .. } => "finish",
+            Step::Close { .. } => "close",
+            Step::Move { .. } => "move",
+            Step::Lost { .. } => "lost",
+            Step::Clock { .. } => "clock",
+        }
+    }
+}
+
+fn is_assigned_to_the_user(state: &State, session: i64, role: i64) -> bool {
+    state.sessions.get(&session).is_some_and(|session| state.is_assigned(session.user, role))
+}
+
+fn set_position(target: &mut State, session: i64, position: Option<Position>) {
+    target.sessions.get_mut(&session).expect("the session is open").position = position;
+}

@@ -1,0 +1,204 @@
+//! What is refused in each text, and what is written.
+
+use outside::plain::form::Bad;
+use outside::plain::rule_text::{read_rules, write_rules};
+use outside::plain::state_text::{read_state, write_state};
+use outside::plain::step_text::{read_steps, write_steps};
+
+/// The refusal's number for a first rule.
+fn rule(text: &str) -> u64 {
+    match read_rules(format!("(rule 1 {text})\n").as_bytes()) {
+        Ok(_) => 0,
+        Err(Bad { number, place }) => {
+            assert_eq!(place, 1);
+            number
+        }
+    }
+}
+
+/// The number and the line for a saved text under no rules.
+fn saved(text: &str) -> (u64, u64) {
+    match read_state(&[], text.as_bytes()) {
+        Ok(state) => {
+            assert_eq!(write_state(&state), text.as_bytes());
+            (0, 0)
+        }
+        Err(Bad { number, place }) => (number, place),
+    }
+}
+
+fn steps_are_read(text: &str) -> bool {
+    read_steps(text.as_bytes()).is_ok_and(|steps| write_steps(&steps) == text.as_bytes())
+}
+
+#[test]
+fn rule_lines_that_are_no_form() {
+    for text in [
+        "(apart 1  2)",
+        "(apart 1 2 )",
+        "( apart 1 2)",
+        "(apart 01 2)",
+        "(apart -1 2)",
+        "(apart 1)",
+        "(apart 1 2 3)",
+        "(aparts 1 2)",
+        "(max-roles 12345678901)",
+        "(during 1 (week 1 5 700 1900))",
+        "(during 1 (dates 2026060 20260608))",
+        "(at 1 (inside (circle -0 0 5)))",
+        "(at 1 (inside (circle 0 0 -5)))",
+        "(at 1 (circle 0 0 5))",
+        "(needs 1 (2))",
+    ] {
+        assert_eq!(rule(text), 10, "{text}");
+    }
+}
+
+#[test]
+fn rule_numbers_outside_their_ranges() {
+    for text in [
+        "(apart 32 2)",
+        "(max-users 1 65)",
+        "(max-roles 33)",
+        "(two-hands 32 1)",
+        "(during 1 (week 0 5 0700 1900))",
+        "(during 1 (week 1 8 0700 1900))",
+        "(during 1 (week 1 5 2400 1900))",
+        "(during 1 (week 1 5 0760 1900))",
+        "(during 1 (week 1 5 0700 0000))",
+        "(during 1 (week 1 5 0700 2401))",
+        "(during 1 (dates 19991231 20260608))",
+        "(during 1 (dates 20260608 21000101))",
+        "(during 1 (months 0 1))",
+        "(during 1 (nth 6 1))",
+        "(during 1 (every 0 20260608))",
+        "(during 1 (every 1001 20260608))",
+        "(at 1 (inside (circle 0 0 0)))",
+        "(at 1 (inside (circle 0 1000001 5)))",
+        "(at 1 (inside (box -1000001 0 0 0)))",
+    ] {
+        assert_eq!(rule(text), 11, "{text}");
+    }
+}
+
+#[test]
+fn rules_that_make_no_sense() {
+    for text in ["(before 1 1)", "(needs 2 2)", "(apart-active 0 0)", "(same-hand 31 31)"] {
+        assert_eq!(rule(text), 13, "{text}");
+    }
+    for text in [
+        "(during 1 (dates 20010229 20260608))",
+        "(during 1 (dates 20260608 20260607))",
+        "(during 1 (every 7 20260631))",
+        "(during 1 (every 7 20261301))",
+        "(during 1 (week 1 5 0700 0700))",
+        "(at 1 (inside (box 1 0 0 0)))",
+        "(at 1 (outside (box 0 -1 0 -2)))",
+    ] {
+        assert_eq!(rule(text), 14, "{text}");
+    }
+}
+
+#[test]
+fn rules_at_the_ends_of_their_ranges() {
+    let texts = [
+        "(max-users 31 64)",
+        "(max-permissions 0 32)",
+        "(max-roles 0)",
+        "(during 1 (week 7 1 0000 2400))",
+        "(during 1 (week 1 1 2359 0001))",
+        "(during 1 (dates 20000101 20991231))",
+        "(during 1 (every 1000 20000229))",
+        "(during 1 (nth 5 7))",
+        "(during 1 (months 12 1))",
+        "(at 1 (inside (circle -1000000 1000000 100000)))",
+        "(at 1 (outside (box -1000000 -1000000 -1000000 1000000)))",
+    ];
+    for text in texts {
+        let line = format!("(rule 1 {text})\n");
+        assert_eq!(write_rules(&read_rules(line.as_bytes()).unwrap()), line.as_bytes());
+    }
+}
+
+#[test]
+fn rules_are_numbered_by_ones() {
+    let first = "(rule 1 (max-roles 1))\n";
+    let after = |line: &str| read_rules(format!("{first}{line}").as_bytes()).unwrap_err();
+    assert_eq!(after("(rule 3 (max-roles 1))\n"), Bad { number: 12, place: 2 });
+    assert_eq!(after("(rule 1 (apart 1 1))\n"), Bad { number: 12, place: 2 });
+    assert_eq!(after("(rule 0 (max-roles 1))\n"), Bad { number: 11, place: 2 });
+    assert_eq!(after("(rule 2 (max-roles 1))"), Bad { number: 10, place: 2 });
+    assert_eq!(after("\n"), Bad { number: 10, place: 2 });
+    assert_eq!(read_rules(b""), Ok(Vec::new()));
+}
+
+#[test]
+fn the_129th_rule_is_outside_the_range() {
+    let lines = (1..=129).map(|number| format!("(rule {number} (max-roles 1))\n"));
+    let text: String = lines.collect();
+    assert_eq!(read_rules(text.as_bytes()), Err(Bad { number: 11, place: 129 }));
+}
+
+#[test]
+fn saved_states_that_are_read() {
+    assert_eq!(saved("(now 0)\n"), (0, 0));
+    assert_eq!(
+        saved(
+            "(now 3155759999)\n(assigned 0 31)\n(assigned 63 0)\n(granted 31 31)\n(open 0 0)\n\
+             (active 0 31)\n(open 2 63)\n(place 2 -1000000 1000000)\n(active 2 0)\n(did 31 0 63)\n"
+        ),
+        (0, 0)
+    );
+}
+
+#[test]
+fn saved_lines_out_of_order_or_twice() {
+    assert_eq!(saved(""), (10, 1));
+    assert_eq!(saved("(assigned 1 1)\n"), (15, 1));
+    assert_eq!(saved("(active 1 1)\n"), (15, 1));
+    assert_eq!(saved("(assigned 64 1)\n"), (11, 1));
+    assert_eq!(saved("(now 0)\n(now 0)\n"), (15, 2));
+    assert_eq!(saved("(now 0)\n(assigned 1 1)\n(assigned 1 1)\n"), (15, 3));
+    assert_eq!(saved("(now 0)\n(granted 1 1)\n(assigned 1 1)\n"), (15, 3));
+    assert_eq!(saved("(now 0)\n(open 1 1)\n(open 1 2)\n"), (15, 3));
+    assert_eq!(saved("(now 0)\n(open 1 1)\n(place 1 0 0)\n(place 1 1 1)\n"), (15, 4));
+    assert_eq!(saved("(now 0)\n(did 0 0 1)\n(did 0 0 0)\n"), (15, 3));
+    assert_eq!(saved("(now 0)\n(did 0 0 1)\n(open 1 2)\n"), (15, 3));
+}
+
+#[test]
+fn saved_lines_without_what_they_stand_on() {
+    assert_eq!(saved("(now 0)\n(place 1 0 0)\n"), (16, 2));
+    assert_eq!(saved("(now 0)\n(open 0 0)\n(active 1 0)\n"), (16, 3));
+    assert_eq!(saved("(now 0)\n(assigned 1 0)\n(open 0 0)\n(active 0 0)\n"), (16, 4));
+    assert_eq!(saved("(now 0)\n(open 0 0)\n(place 0 0 0"), (10, 3));
+}
+
+#[test]
+fn a_saved_state_that_breaks_rules() {
+    let rules = b"(rule 1 (max-roles 2))\n(rule 2 (max-users 1 0))\n(rule 3 (max-roles 0))\n";
+    let rules = read_rules(rules).unwrap();
+    let state = read_state(&rules, b"(now 0)\n(assigned 0 1)\n");
+    assert_eq!(state, Err(Bad { number: 17, place: 2 }));
+}
+
+#[test]
+fn steps_have_no_ranges_in_their_text() {
+    assert!(steps_are_read(""));
+    assert!(steps_are_read("(clock 9999999999)\n(move 99 -9999999999 0)\n"));
+    for text in [
+        "(clock 99999999999)\n",
+        "(clock -1)\n",
+        "(clock 00)\n",
+        "(move -1 0 0)\n",
+        "(move 1 -0 0)\n",
+        "(clock 1)",
+        "(steps)\n",
+        "(lost)\n",
+        "(lost 1) \n",
+        " (lost 1)\n",
+        "(lost 1)\r\n",
+    ] {
+        assert_eq!(read_steps(text.as_bytes()), Err(Bad { number: 10, place: 1 }), "{text}");
+    }
+}
