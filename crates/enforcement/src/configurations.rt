@@ -256,7 +256,7 @@ impl Configuration {
     }
 
     fn access(
-        mut self,
+        self,
         list: RuleList,
         session: usize,
         permission: usize,
@@ -266,20 +266,17 @@ impl Configuration {
         requires { ⌜ (list .length ≤ 128) × (session < 32) × (permission < 32) × (object < 32) × (length (now history) ≡ 1024) ⌝ }
         ensures { λ r. ⌜ nextOf r (now (history .exit)) ≡ decide (rulesOf list) (stateOf self (now (history .entry))) (Action.Access session permission object) ⌝ }
     {
-        let assigned = self.assigned;
-        let granted = self.granted;
         let sessions = self.sessions;
-        let active = self.active;
         let time = self.time;
         let answer = kinds::access(
             list,
             session,
             permission,
             object,
-            &assigned,
-            &granted,
+            &self.assigned,
+            &self.granted,
             sessions,
-            &active,
+            &self.active,
             history,
             time,
         );
@@ -289,12 +286,7 @@ impl Configuration {
         }
     }
 
-    fn finish(
-        mut self,
-        list: RuleList,
-        object: usize,
-        history: &mut [u64; 1024],
-    ) -> NextConfiguration
+    fn finish(self, list: RuleList, object: usize, history: &mut [u64; 1024]) -> NextConfiguration
         requires { ⌜ (list .length ≤ 128) × (object < 32) × (length (now history) ≡ 1024) ⌝ }
         ensures { λ r. ⌜ nextOf r (now (history .exit)) ≡ decide (rulesOf list) (stateOf self (now (history .entry))) (Action.Finish object) ⌝ }
     {
