@@ -1,6 +1,6 @@
 -- The judgement of a list of rules, one rule after the other.
 -- Assumes nothing.
-use mathlib.Core.Path.{_≡_, refl, sym, ap, ap₂, _∙_}
+use mathlib.Core.Path.{_≡_, refl, sym, ap, ap₂, _∙_, fun-ext}
 use mathlib.Core.Bool.{Bool, true, false, not, cond, _||_}
 use mathlib.Core.List.{List, [], _∷_, map}
 use Prim.Native.Nat.{ℕ, zero, suc, _+_, _≤_, _<_}
@@ -13,8 +13,11 @@ use Rattle.rules.specs.Acceptance.{ruleOf}
 use Rattle.rules.specs.Families.{View, holds}
 use Rattle.rules.specs.declared.families.Rule.{Rule}
 use Rattle.rules.specs.declared.lists.Slot.{Slot}
-use Rattle.enforcement.specs.Decisions.{Lowest, unbroken, broken, lowest}
-use Rattle.enforcement.specs.Selection.{selectedNumber}
+use Rattle.selection.specs.Lowest.{Lowest, unbroken, broken, lowest}
+use Rattle.selection.specs.Selection.{selects, selectedNumber}
+use Rattle.selection.specs.Choices.{chosen}
+use Rattle.selection.specs.declared.actions.Action.{Action}
+use Rattle.selection.specs.declared.selection.Choice.{Choice}
 use Rattle.enforcement.specs.Deciding.{foundOf, judgedOf, orFound, visited}
 use Rattle.enforcement.specs.declared.judging.Found.{Found}
 use Rattle.enforcement.specs.declared.judging.Found.the-variants as found
@@ -124,3 +127,8 @@ module _ (isSelected holds : Bool) (judged : Judged) (number : ℕ) where
   pub visited-broken : isSelected ≡ true → judged .broken ≡ found.Nothing → holds ≡ false → record { broken = found.Rule number; selected = judged .selected + 1 } ≡ visited isSelected holds judged number
   unfolding visited
   visited-broken e f h = rw (e, f, h)
+
+-- ---- what is judged by a choice is so by the table
+
+pub judged-told : (choice : Choice) (action : Action) → ((k : Rule) → chosen choice k ≡ selects action k) → (rules : List Rule) (v : View) (judged : Judged) → judged ≡ judgedOf (chosen choice) v rules → judged ≡ judgedOf (selects action) v rules
+judged-told choice action same rules v judged e = e ∙ ap (λ (selected : Rule → Bool). judgedOf selected v rules) (fun-ext same)

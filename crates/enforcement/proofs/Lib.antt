@@ -12,7 +12,6 @@ pub mod Reaching
 pub mod Callers
 pub mod Table
 pub mod Causes
-pub mod Choosing
 pub mod Targets
 pub mod AnswerWords
 pub mod Grid

@@ -18,9 +18,10 @@ use Rattle.sets.proofs.Width.{equal-sets, member-below, within-lt}
 use Rattle.sets.proofs.Built.{member-set-of}
 use Rattle.rules.specs.Families.{wordAt, hasRole}
 use Rattle.rules.specs.declared.families.Rule.{Rule}
-use Rattle.enforcement.specs.Decisions.{endedPairs, pairCount, Part}
-use Rattle.enforcement.specs.Gate.{stays, sifted, sameLists, round, settled, remaining}
-use Rattle.enforcement.specs.Deciding.{stayingRoles, lets, planRound, planSettled, Planned}
+use Rattle.selection.specs.Pairs.{endedPairs, pairCount, Part}
+use Rattle.selection.specs.Ending.{sifted, sameLists, settled, stayingRoles, lets, planRound, planSettled}
+use Rattle.enforcement.specs.Gate.{stays, round, remaining}
+use Rattle.enforcement.specs.Deciding.{Planned}
 use Rattle.enforcement.specs.declared.states.State.{State}
 use Rattle.enforcement.specs.declared.events.Plan.{Plan}
 use Rattle.enforcement.proofs.Rounds.{has-below, part-same, part-of-part, HasRoles, part-has-roles, has-sifted, length-sifted, round-fewer}

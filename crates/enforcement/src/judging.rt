@@ -3,16 +3,17 @@ ghost use mathlib.Core.Path.{_≡_};
 ghost use Prim.Native.Nat.{_+_, _<_, _≤_};
 ghost use Rattle.rules.specs.Acceptance.{rulesOf};
 ghost use Rattle.rules.specs.Families.{view, holds};
-ghost use Rattle.enforcement.specs.Selection.{selects};
-ghost use Rattle.enforcement.specs.Deciding.{chosen, judgedOf, visited};
-use crate::selection::Choice;
-use crate::selection::choice_of;
-use crate::selection::is_chosen;
-use crate::steps::Action;
+ghost use Rattle.selection.specs.Selection.{selects};
+ghost use Rattle.selection.specs.Choices.{chosen};
+ghost use Rattle.enforcement.specs.Deciding.{judgedOf, visited};
 use rules::Rule;
 use rules::RuleList;
 use rules::Session;
 use rules::Tested;
+use selection::Action;
+use selection::Choice;
+use selection::selection::choice_of;
+use selection::selection::is_chosen;
 
 // The lowest broken rule, if there is one.
 pub enum Found {

@@ -16,11 +16,11 @@ use crate::events::ended;
 use crate::events::fewer;
 use crate::judging::Found;
 use crate::judging::judge;
-use crate::steps::Action;
 use crate::steps::Answer;
 use places::Position;
 use rules::RuleList;
 use rules::Session;
+use selection::Action;
 use sets::word32;
 use sets::word64;
 

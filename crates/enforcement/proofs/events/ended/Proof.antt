@@ -5,7 +5,7 @@ use mathlib.Core.Path.{_≡_, refl, _∙_, ap}
 use Prim.Native.Nat.{_≤_, _*_, _-_}
 use native.Mathlib.Omega.{arith}
 use lib.ListN.{take}
-use Rattle.enforcement.specs.Decisions.{endedPairs, pairCount}
+use Rattle.selection.specs.Pairs.{endedPairs, pairCount}
 use Rattle.enforcement.proofs.Settling.{ended-next, ended-all}
 use borrow.Author.Needs.{needs}
 use Rattle.enforcement.proofs.events.ended.Statement.{statement}

@@ -4,7 +4,7 @@ use mathlib.Core.Path.{_≡_, refl, sym, _∙_}
 use Prim.Native.Nat.{_≤_, _-_}
 use native.Mathlib.Omega.{arith}
 use lib.ListN.{drop}
-use Rattle.enforcement.specs.Gate.{sameLists}
+use Rattle.selection.specs.Ending.{sameLists}
 use Rattle.enforcement.proofs.Settling.{same-next, same-stop, same-end}
 use borrow.Author.Needs.{needs}
 use Rattle.enforcement.proofs.events.is_same.Statement.{statement}

@@ -4,7 +4,7 @@ use mathlib.Core.Path.{_≡_, refl, _∙_}
 use Prim.Native.Nat.{ℕ, _≤_, _-_}
 use native.Mathlib.Omega.{arith}
 use lib.ListN.{length, take, length-replicate}
-use Rattle.enforcement.specs.Deciding.{planRound}
+use Rattle.selection.specs.Ending.{planRound}
 use Rattle.enforcement.proofs.Settling.{filled-next, filled-all, round-word, length-round}
 use borrow.Author.Needs.{needs}
 use Rattle.enforcement.proofs.events.round.Statement.{statement}

@@ -7,9 +7,8 @@ use lib.ListN.{length}
 use mir.Syntax.{w32}
 use mir.Val.{Fits}
 use Rattle.rules.specs.Families.{wordAt}
-use Rattle.enforcement.specs.Decisions.{pairCount}
-use Rattle.enforcement.specs.Gate.{settled}
-use Rattle.enforcement.specs.Deciding.{planRound, planSettled}
+use Rattle.selection.specs.Pairs.{pairCount}
+use Rattle.selection.specs.Ending.{settled, planRound, planSettled}
 use Rattle.enforcement.proofs.Rounds.{HasRoles}
 use Rattle.enforcement.proofs.Settling.{small-roles, turn-roles, turn-end, turn-less, turn-next}
 use borrow.Author.Needs.{needs}

@@ -9,7 +9,7 @@ use Rattle.sets.specs.Sets.{member, subset, setOf}
 use Rattle.sets.proofs.Members.{with-below}
 use Rattle.sets.proofs.Built.{set-of-in, set-of-out}
 use Rattle.rules.specs.Families.{wordAt}
-use Rattle.enforcement.specs.Deciding.{stayingRoles}
+use Rattle.selection.specs.Ending.{stayingRoles}
 use borrow.Author.Needs.{needs}
 use Rattle.enforcement.proofs.events.staying_roles.Statement.{statement}
 use Rattle.enforcement.proofs.events.staying_roles.Tie as tie

@@ -6,11 +6,11 @@ use Prim.Native.Nat.{_≤_, _-_}
 use native.Mathlib.Omega.{arith}
 use lib.ListN.{length-map}
 use Rattle.rules.specs.Families.{view}
-use Rattle.enforcement.specs.Decisions.{lowest}
-use Rattle.enforcement.specs.Selection.{selectedNumber}
-use Rattle.enforcement.specs.Deciding.{chosen, judgedOf}
-use Rattle.enforcement.proofs.Choosing.{judged-told}
-use Rattle.enforcement.proofs.Judgement.{firstRules, judged-more, judged-small}
+use Rattle.selection.specs.Lowest.{lowest}
+use Rattle.selection.specs.Selection.{selectedNumber}
+use Rattle.selection.specs.Choices.{chosen}
+use Rattle.enforcement.specs.Deciding.{judgedOf}
+use Rattle.enforcement.proofs.Judgement.{firstRules, judged-more, judged-small, judged-told}
 use Rattle.enforcement.proofs.judging.judge.Statement.{statement}
 use Rattle.enforcement.proofs.judging.judge.Tie as tie
 

@@ -1,9 +1,9 @@
 // The table's last column: which rules a step selects.
 ghost use mathlib.Core.Path.{_≡_};
 ghost use Rattle.rules.specs.declared.families.Rule.{Rule};
-ghost use Rattle.enforcement.specs.Selection.{family, first, second, selects};
-ghost use Rattle.enforcement.specs.Deciding.{chosen, choiceOf};
-use crate::steps::Action;
+ghost use Rattle.selection.specs.Selection.{family, first, second, selects};
+ghost use Rattle.selection.specs.Choices.{chosen, choiceOf};
+use crate::actions::Action;
 use rules::Rule;
 use sets::word32;
 
@@ -51,7 +51,7 @@ pub fn selects(action: Action, rule: Rule) -> bool
     is_chosen(choice_of(action), rule)
 }
 
-pub(crate) fn choice_of(action: Action) -> Choice
+pub fn choice_of(action: Action) -> Choice
     ensures { λ r. ⌜ ((rule : Rule) → chosen r rule ≡ selects action rule) ⌝ }
 {
     match action {
@@ -115,7 +115,7 @@ fn by_families(whole: u32, by_first: u32, by_second: u32, named: usize) -> Choic
     }
 }
 
-pub(crate) fn is_chosen(choice: Choice, rule: Rule) -> bool
+pub fn is_chosen(choice: Choice, rule: Rule) -> bool
     ensures { λ r. ⌜ r ≡ chosen choice rule ⌝ }
 {
     let family = family_of(rule);
@@ -166,7 +166,7 @@ fn family_of(rule: Rule) -> usize
 }
 
 // The first role or permission that a rule names; 0 where it names none.
-pub(crate) fn first_of(rule: Rule) -> usize
+pub fn first_of(rule: Rule) -> usize
     ensures { λ r. ⌜ r ≡ first rule ⌝ }
 {
     match rule {

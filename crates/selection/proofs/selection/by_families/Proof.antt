@@ -1,9 +1,9 @@
--- `enforcement::selection::by_families` meets its contract.
+-- `selection::selection::by_families` meets its contract.
 -- Assumes nothing.
 use mathlib.Core.Path.{refl}
 use borrow.Author.Needs.{needs}
-use Rattle.enforcement.proofs.selection.by_families.Statement.{statement}
-use Rattle.enforcement.proofs.selection.by_families.Tie as tie
+use Rattle.selection.proofs.selection.by_families.Statement.{statement}
+use Rattle.selection.proofs.selection.by_families.Tie as tie
 
 union-requires : tie.Need-union-requires
 union-requires c κs = search needs

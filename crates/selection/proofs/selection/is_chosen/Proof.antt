@@ -1,11 +1,11 @@
--- `enforcement::selection::is_chosen` meets its contract.
+-- `selection::selection::is_chosen` meets its contract.
 -- Assumes nothing.
 use mathlib.Core.Path.{refl, sym, _∙_}
 use borrow.Author.Tests.{not-true, not-false}
-use Rattle.enforcement.specs.Deciding.{chosen}
+use Rattle.selection.specs.Choices.{chosen}
 use borrow.Author.Needs.{needs}
-use Rattle.enforcement.proofs.selection.is_chosen.Statement.{statement}
-use Rattle.enforcement.proofs.selection.is_chosen.Tie as tie
+use Rattle.selection.proofs.selection.is_chosen.Statement.{statement}
+use Rattle.selection.proofs.selection.is_chosen.Tie as tie
 
 family-of-requires : tie.Need-family-of-requires
 family-of-requires c κs = search needs

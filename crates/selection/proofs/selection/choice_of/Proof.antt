@@ -1,10 +1,10 @@
--- `enforcement::selection::choice_of` meets its contract.
+-- `selection::selection::choice_of` meets its contract.
 -- Assumes nothing.
-use Rattle.enforcement.specs.Selection.{selects}
-use Rattle.enforcement.proofs.Choosing.{none-chosen, assign-chosen, withdraw-chosen, grant-chosen, activate-chosen, deactivate-chosen, access-chosen, close-chosen, move-chosen, lost-chosen, clock-chosen, chosen-told}
+use Rattle.selection.specs.Selection.{selects}
+use Rattle.selection.proofs.Choosing.{none-chosen, assign-chosen, withdraw-chosen, grant-chosen, activate-chosen, deactivate-chosen, access-chosen, close-chosen, move-chosen, lost-chosen, clock-chosen, chosen-told}
 use borrow.Author.Needs.{needs}
-use Rattle.enforcement.proofs.selection.choice_of.Statement.{statement}
-use Rattle.enforcement.proofs.selection.choice_of.Tie as tie
+use Rattle.selection.proofs.selection.choice_of.Statement.{statement}
+use Rattle.selection.proofs.selection.choice_of.Tie as tie
 
 enum-told : tie.Need-enum-told
 enum-told c = search needs

@@ -1,9 +1,9 @@
--- `enforcement::selection::selects` meets its contract.
+-- `selection::selection::selects` meets its contract.
 -- Assumes nothing.
 use mathlib.Core.Path.{_∙_}
 use borrow.Author.Needs.{needs}
-use Rattle.enforcement.proofs.selection.selects.Statement.{statement}
-use Rattle.enforcement.proofs.selection.selects.Tie as tie
+use Rattle.selection.proofs.selection.selects.Statement.{statement}
+use Rattle.selection.proofs.selection.selects.Tie as tie
 
 choice-of-requires : tie.Need-choice-of-requires
 choice-of-requires c κs = search needs

@@ -1,7 +1,6 @@
 -- A choice by sets of families is the table's: the two are compared at each family.
 -- Assumes nothing.
-use mathlib.Core.Path.{_≡_, refl, sym, ap, _∙_, subst, fun-ext}
-use mathlib.Core.List.{List}
+use mathlib.Core.Path.{_≡_, refl, sym, ap, _∙_}
 use mathlib.Core.Bool.{Bool, true, false, not, _&&_, _||_, false≢true}
 use Prim.Native.Nat.{ℕ, _<_}
 use native.Mathlib.Omega.{arith}
@@ -9,17 +8,13 @@ use lib.Dec.{eqb}
 use Rattle.sets.specs.Sets.{member, all}
 use Rattle.sets.proofs.Booleans.{both}
 use Rattle.sets.proofs.Bounded.{of-all}
-use Rattle.rules.specs.Families.{View}
 use Rattle.rules.specs.declared.families.Rule.{Rule}
 use Rattle.rules.specs.declared.families.Rule.the-variants.{Prerequisite, MaxUsers, MaxRoles, MaxPermissions, MaxActive, StaticSeparation, DynamicSeparation, Dependency, TimeContext, LocationContext, HistorySeparation, BindingOfDuty}
-use Rattle.enforcement.specs.Selection.{family, hasFirst, hasSecond, selects}
-use Rattle.enforcement.specs.Deciding.{choiceOf, chosenAt, chosen, judgedOf, Planned}
-use Rattle.enforcement.specs.declared.states.State.{State}
-use Rattle.enforcement.specs.declared.judging.Judged.{Judged}
-use Rattle.enforcement.specs.declared.events.Plan.{Plan}
-use Rattle.enforcement.specs.declared.selection.Choice.{Choice}
-use Rattle.enforcement.specs.declared.steps.Action.{Action}
-use Rattle.enforcement.specs.declared.steps.Action.the-variants.{Malformed, Assign, Withdraw, Grant, Take, Open, Activate, Deactivate, Access, Finish, Close, Move, Lost, Clock}
+use Rattle.selection.specs.Selection.{family, hasFirst, hasSecond, selects}
+use Rattle.selection.specs.declared.actions.Action.{Action}
+use Rattle.selection.specs.declared.actions.Action.the-variants.{Malformed, Assign, Withdraw, Grant, Take, Open, Activate, Deactivate, Access, Finish, Close, Move, Lost, Clock}
+use Rattle.selection.specs.Choices.{choiceOf, chosenAt, chosen}
+use Rattle.selection.specs.declared.selection.Choice.{Choice}
 use Rattle.places.specs.declared.Point.{Point}
 
 -- ---- two tests by family that are the same at each family are the same
@@ -123,12 +118,3 @@ module _ (k : Rule) where
 -- a row by the step that is read
 pub chosen-told : (action told : Action) → action ≡ told → (choice made : Choice) → choice ≡ made → ((k : Rule) → chosen made k ≡ selects told k) → (k : Rule) → chosen choice k ≡ selects action k
 chosen-told action told e choice made is row k = ap (λ (c : Choice). chosen c k) is ∙ row k ∙ ap (λ (a : Action). selects a k) (sym e)
-
--- ---- what is judged and planned by the choice is so by the table
-
-module _ (choice : Choice) (action : Action) (same : (k : Rule) → chosen choice k ≡ selects action k) (rules : List Rule) where
-  pub judged-told : (v : View) (judged : Judged) → judged ≡ judgedOf (chosen choice) v rules → judged ≡ judgedOf (selects action) v rules
-  judged-told v judged e = e ∙ ap (λ (selected : Rule → Bool). judgedOf selected v rules) (fun-ext same)
-
-  pub planned-told : (s : State) (plan : Plan) → Planned (chosen choice) rules s plan → Planned (selects action) rules s plan
-  planned-told s plan = subst (λ (selected : Rule → Bool). Planned selected rules s plan) (fun-ext same)
