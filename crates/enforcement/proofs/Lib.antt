@@ -6,7 +6,6 @@ pub mod Rounds
 pub mod Ending
 pub mod Parts
 pub mod Kept
-pub mod Judgement
 pub mod Agreement
 pub mod Reaching
 pub mod Callers

@@ -40,7 +40,7 @@ use Rattle.enforcement.specs.Deciding.{Planned, Adds, RuledOut, countedP
 use Rattle.enforcement.specs.declared.states.State.{State}
 use Rattle.enforcement.specs.declared.events.Plan.{Plan}
 use Rattle.enforcement.proofs.Words.{set-at, has-put}
-use Rattle.enforcement.proofs.Judgement.{firstRules, number-more, number-le}
+use Rattle.selection.proofs.Judgement.{firstRules, number-more, number-le}
 
 -- ---- a role ruled out session by session
 

@@ -11,10 +11,10 @@ use Rattle.sets.specs.Sets.{member, any, oneIf}
 use Rattle.places.specs.Places.{sideHolds}
 use Rattle.places.specs.declared.Position.{Position}
 use Rattle.places.specs.declared.Side.{Side}
-use Rattle.rules.specs.Families.{View, wordAt, hasRole, sessionAt, holds}
+use Rattle.rules.specs.Families.{wordAt, hasRole, sessionAt}
 use Rattle.rules.specs.declared.families.Rule.{Rule}
 use Rattle.rules.specs.declared.sessions.Session.{Session}
-use Rattle.selection.specs.Lowest.{Lowest, unbroken, broken, lowest}
+use Rattle.selection.specs.Lowest.{lowest}
 use Rattle.selection.specs.Pairs.{endedPairs, pairCount}
 use Rattle.selection.specs.Selection.{selects, selectedNumber}
 use Rattle.selection.specs.Ending.{lets}
@@ -29,34 +29,8 @@ use Rattle.enforcement.specs.declared.configurations.NextConfiguration.{
 use Rattle.enforcement.specs.declared.steps.Answer.{Answer}
 use Rattle.enforcement.specs.declared.steps.Answer.the-variants.{Granted, Refused}
 use Rattle.enforcement.specs.declared.steps.Next.{Next}
-use Rattle.enforcement.specs.declared.judging.Found.{Found}
-use Rattle.enforcement.specs.declared.judging.Found.the-variants as found
-use Rattle.enforcement.specs.declared.judging.Judged.{Judged}
 use Rattle.enforcement.specs.declared.events.Plan.{Plan}
 use Rattle.enforcement.specs.declared.events.Left.{Left}
-
--- ---- a request
-
-abbrev pub foundOf : Lowest → Found
-foundOf unbroken = found.Nothing
-foundOf (broken n) = found.Rule n
-
--- the lowest broken one of the selected rules, and how many are selected
-unfoldable pub judgedOf : (Rule → Bool) → View → List Rule → Judged
-judgedOf selected v rules =
-    record {
-      broken = foundOf (lowest (λ rule. not (selected rule) || holds rule v) 1 rules);
-      selected = selectedNumber selected rules;
-    }
-
-abbrev pub orFound : Found → Bool → ℕ → Found
-orFound found.Nothing holds number = cond holds found.Nothing (found.Rule number)
-orFound (found.Rule n) holds number = found.Rule n
-
--- one rule more
-unfoldable pub visited : Bool → Bool → Judged → ℕ → Judged
-visited isSelected holds judged number =
-    cond isSelected (record { broken = orFound (judged .broken) holds number; selected = judged .selected + 1 }) judged
 
 -- ---- an event
 

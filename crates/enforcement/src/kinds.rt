@@ -14,13 +14,13 @@ use crate::events::copied;
 use crate::events::end_roles;
 use crate::events::ended;
 use crate::events::fewer;
-use crate::judging::Found;
-use crate::judging::judge;
 use crate::steps::Answer;
 use places::Position;
 use rules::RuleList;
 use rules::Session;
 use selection::Action;
+use selection::Found;
+use selection::judge;
 use sets::word32;
 use sets::word64;
 

@@ -2,7 +2,6 @@
 mod acceptance;
 mod configurations;
 mod events;
-mod judging;
 mod kinds;
 mod runs;
 pub mod states;

@@ -6,7 +6,7 @@ use native.Mathlib.Omega.{arith}
 use lib.ListN.{length, length-map}
 use Rattle.selection.specs.Choices.{chosen}
 use Rattle.enforcement.specs.Deciding.{context, Planned}
-use Rattle.enforcement.proofs.Judgement.{firstRules}
+use Rattle.selection.proofs.Judgement.{firstRules}
 use Rattle.enforcement.proofs.Planning.{planned-none, planned-more, planned-small, planned-told}
 use borrow.Author.Needs.{needs}
 use Rattle.enforcement.proofs.events.plan_of.Statement.{statement}

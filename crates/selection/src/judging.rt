@@ -1,19 +1,20 @@
 // A request's judgement: the lowest broken one of the rules that it selects, and how many it selects.
 ghost use mathlib.Core.Path.{_≡_};
+ghost use mathlib.Core.Logic.{_⊎_};
 ghost use Prim.Native.Nat.{_+_, _<_, _≤_};
 ghost use Rattle.rules.specs.Acceptance.{rulesOf};
 ghost use Rattle.rules.specs.Families.{view, holds};
 ghost use Rattle.selection.specs.Selection.{selects};
 ghost use Rattle.selection.specs.Choices.{chosen};
-ghost use Rattle.enforcement.specs.Deciding.{judgedOf, visited};
+ghost use Rattle.selection.specs.Judging.{judgedOf, visited};
+use crate::actions::Action;
+use crate::selection::Choice;
+use crate::selection::choice_of;
+use crate::selection::is_chosen;
 use rules::Rule;
 use rules::RuleList;
 use rules::Session;
 use rules::Tested;
-use selection::Action;
-use selection::Choice;
-use selection::selection::choice_of;
-use selection::selection::is_chosen;
 
 // The lowest broken rule, if there is one.
 pub enum Found {
@@ -27,7 +28,7 @@ pub struct Judged {
 }
 
 // The rules of the list, lowest first.
-pub(crate) fn judge<'a>(
+pub fn judge<'a>(
     list: RuleList,
     action: Action,
     assigned: &'a [u32; 64],
@@ -37,10 +38,9 @@ pub(crate) fn judge<'a>(
     history: &'a [u64; 1024],
     time: u64,
 ) -> Judged
-    requires { ⌜ list .length ≤ 128 ⌝ }
     ensures { λ r. ⌜ r ≡ judgedOf (selects action) (view (now (assigned .entry)) (now (assigned .entry)) (now (granted .entry)) sessions (now (active .entry)) (now (history .entry)) time) (rulesOf list) ⌝ }
 {
-    let length = list.length;
+    let length = slots_in(list.length);
     let choice = choice_of(action);
     let mut judged = Judged {
         broken: Found::Nothing,
@@ -65,6 +65,16 @@ pub(crate) fn judge<'a>(
         i += 1;
     }
     judged
+}
+
+// How many slots a list of that length has: there are no more than 128.
+fn slots_in(length: usize) -> usize
+    ensures { λ r. ⌜ (r ≤ 128) × ((r ≡ length) ⊎ ((r ≡ 128) × (128 < length))) ⌝ }
+{
+    if RuleList::MOST < length {
+        return RuleList::MOST;
+    }
+    length
 }
 
 // One rule more: it is counted where it is selected, and tested while no rule is broken.

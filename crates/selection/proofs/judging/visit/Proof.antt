@@ -1,12 +1,12 @@
--- `enforcement::judging::visit` meets its contract.
+-- `selection::judging::visit` meets its contract.
 -- Assumes nothing.
 use mathlib.Core.Path.{sym, ap, _∙_}
 use borrow.Author.Tests.{not-true, not-false}
 use Rattle.rules.specs.Breach.{isKept}
-use Rattle.enforcement.proofs.Judgement.{visited-unselected, visited-after, visited-kept, visited-broken}
+use Rattle.selection.proofs.Judgement.{visited-unselected, visited-after, visited-kept, visited-broken}
 use borrow.Author.Needs.{needs}
-use Rattle.enforcement.proofs.judging.visit.Statement.{statement}
-use Rattle.enforcement.proofs.judging.visit.Tie as tie
+use Rattle.selection.proofs.judging.visit.Statement.{statement}
+use Rattle.selection.proofs.judging.visit.Tie as tie
 
 is-chosen-requires : tie.Need-is-chosen-requires
 is-chosen-requires c κs = search needs

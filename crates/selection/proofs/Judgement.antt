@@ -3,29 +3,36 @@
 use mathlib.Core.Path.{_≡_, refl, sym, ap, ap₂, _∙_, fun-ext}
 use mathlib.Core.Bool.{Bool, true, false, not, cond, _||_}
 use mathlib.Core.List.{List, [], _∷_, map}
+use mathlib.Core.Logic.{_⊎_, inl, inr}
 use Prim.Native.Nat.{ℕ, zero, suc, _+_, _≤_, _<_}
 use native.Mathlib.Nat.{add-suc, suc-add, add-zero, add-comm}
 use native.Mathlib.Numerals.{add-one}
 use native.Mathlib.Omega.{arith}
 use lib.ListN.{length, take, getD}
+use lib.Seq.{take-all}
 use Rattle.sets.specs.Sets.{oneIf}
 use Rattle.rules.specs.Acceptance.{ruleOf}
 use Rattle.rules.specs.Families.{View, holds}
 use Rattle.rules.specs.declared.families.Rule.{Rule}
 use Rattle.rules.specs.declared.lists.Slot.{Slot}
 use Rattle.selection.specs.Lowest.{Lowest, unbroken, broken, lowest}
 use Rattle.selection.specs.Selection.{selects, selectedNumber}
 use Rattle.selection.specs.Choices.{chosen}
 use Rattle.selection.specs.declared.actions.Action.{Action}
 use Rattle.selection.specs.declared.selection.Choice.{Choice}
-use Rattle.enforcement.specs.Deciding.{foundOf, judgedOf, orFound, visited}
-use Rattle.enforcement.specs.declared.judging.Found.{Found}
-use Rattle.enforcement.specs.declared.judging.Found.the-variants as found
-use Rattle.enforcement.specs.declared.judging.Judged.{Judged}
+use Rattle.selection.specs.Judging.{foundOf, judgedOf, orFound, visited}
+use Rattle.selection.specs.declared.judging.Found.{Found}
+use Rattle.selection.specs.declared.judging.Found.the-variants as found
+use Rattle.selection.specs.declared.judging.Judged.{Judged}
 
 -- the rules of the first n slots
 abbrev pub firstRules : ℕ → List Slot → List Rule
 firstRules n slots = map ruleOf (take n slots)
+
+-- a length past the last slot takes no more rules than there are slots
+pub rules-bounded : (slots : List Slot) (n m : ℕ) → length slots ≡ 128 → (n ≡ m) ⊎ ((n ≡ 128) × (128 < m)) → firstRules n slots ≡ firstRules m slots
+rules-bounded slots n m long (inl e) = rw e
+rules-bounded slots n m long (inr past) = ap (map ruleOf) (take-all n slots (omega (arith, past .0)) ∙ sym (take-all m slots (omega (arith, past .1))))
 
 -- ---- one slot more
 

@@ -1,4 +1,5 @@
--- `enforcement::judging::judge` meets its contract. The loop's invariant: the first i rules are judged, and i is at most the length.
+-- `selection::judging::judge` meets its contract. The loop's invariant: the first i rules are judged, and i is at most the number of slots
+-- that the list has.
 -- Assumes nothing.
 use borrow.Author.Needs.{needs}
 use mathlib.Core.Path.{_≡_, refl, sym, _∙_}
@@ -6,13 +7,13 @@ use Prim.Native.Nat.{_≤_, _-_}
 use native.Mathlib.Omega.{arith}
 use lib.ListN.{length-map}
 use Rattle.rules.specs.Families.{view}
 use Rattle.selection.specs.Lowest.{lowest}
 use Rattle.selection.specs.Selection.{selectedNumber}
 use Rattle.selection.specs.Choices.{chosen}
-use Rattle.enforcement.specs.Deciding.{judgedOf}
-use Rattle.enforcement.proofs.Judgement.{firstRules, judged-more, judged-small, judged-told}
-use Rattle.enforcement.proofs.judging.judge.Statement.{statement}
-use Rattle.enforcement.proofs.judging.judge.Tie as tie
+use Rattle.selection.specs.Judging.{judgedOf}
+use Rattle.selection.proofs.Judgement.{firstRules, rules-bounded, judged-more, judged-small, judged-told}
+use Rattle.selection.proofs.judging.judge.Statement.{statement}
+use Rattle.selection.proofs.judging.judge.Tie as tie
 
 abbrev Inv-loop : tie.InvT-loop
 Inv-loop assigned granted sessions active history time list length choice judged₀ i₀ judged i = (i ≤ length) × (judged ≡ judgedOf (chosen choice) (view assigned assigned granted sessions active history time) (firstRules i (list .slots)))
@@ -23,6 +24,9 @@ abbrev μ-loop : tie.MeasureT-loop
 -- The type fixes the number of slots, so each index below the length is one of a slot.
 slots-length : (c : tie.Start Inv-loop μ-loop) → lib.ListN.length (c .args .t1 .slots) ≡ 128
 slots-length c = sym (length-map (c .args .t1 .slots) _) ∙ c .good .0 .1 .1 .0 .1 .0 .1
+
+slots-in-requires : tie.Need-slots-in-requires Inv-loop μ-loop
+slots-in-requires c κs = search needs
 
 choice-of-requires : tie.Need-choice-of-requires Inv-loop μ-loop
 choice-of-requires c κs = search needs
@@ -42,7 +46,7 @@ add-visit c = search needs
 
 visit-requires : tie.Need-visit-requires Inv-loop μ-loop
 visit-requires c κs =
-    let within : c .before .before .loop .i ≤ lib.ListN.length (c .before .before .before .before .args .t1 .slots) = omega (arith, slots-length (c .before .before .before .before)) in
+    let within : c .before .before .loop .i ≤ lib.ListN.length (c .before .before .before .before .before .args .t1 .slots) = omega (arith, slots-length (c .before .before .before .before .before)) in
     let small = judged-small _ _ _ _ (c .before .before .loop .i) within (c .before .before .loop .inv .1) in
     omega (arith, small)
 
@@ -55,11 +59,16 @@ loop-less c = search needs
 loop-again : tie.Need-loop-again Inv-loop μ-loop
 loop-again c = (
   search needs,
-  c .visit .ensures ∙ rw (c .before .before .before .loop .inv .1) (judged-more _ _ (c .before .before .before .before .before .args .t1 .slots) (c .before .before .before .loop .i) _ (omega (arith, slots-length (c .before .before .before .before .before)))),
+  c .visit .ensures ∙ rw (c .before .before .before .loop .inv .1) (judged-more _ _ (c .before .before .before .before .before .before .args .t1 .slots) (c .before .before .before .loop .i) _ (omega (arith, slots-length (c .before .before .before .before .before .before)))),
 )
 
 returns : tie.Need-returns Inv-loop μ-loop
-returns c = let done : c .before .loop .i ≡ c .before .before .before .args .t1 .length = omega arith in judged-told _ _ (c .before .before .choice-of .ensures) _ _ _ (rw done at (c .before .loop .inv .1))
+returns c =
+    let start = c .before .before .before .before in
+    let slots = c .before .before .before .slots-in in
+    let done : c .before .loop .i ≡ slots .result = omega arith in
+    let all = rules-bounded (start .args .t1 .slots) _ _ (slots-length start) (slots .ensures .1) in
+    judged-told _ _ (c .before .before .choice-of .ensures) _ _ _ (rw (done, all) at (c .before .loop .inv .1))
 
 pub judge-spec : {M : Type 1} → statement M
 judge-spec =
@@ -67,6 +76,7 @@ judge-spec =
     (tie.spec
     Inv-loop
     μ-loop
+    slots-in-requires
     choice-of-requires
     loop-holds
     mul-slot
