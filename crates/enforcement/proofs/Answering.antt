@@ -37,7 +37,7 @@ use Rattle.enforcement.specs.declared.steps.Answer.the-variants.{Granted
 use Rattle.enforcement.specs.declared.steps.Next.{Next}
 use Rattle.enforcement.specs.declared.events.Left.{Left}
 use Rattle.enforcement.proofs.Ranges.{Ranged, action-ranged}
-use Rattle.enforcement.proofs.Settling.{settled-same, sifted-same}
+use Rattle.selection.proofs.Settling.{settled-same, sifted-same}
 
 -- ---- what is left of the active pairs: the sessions, the active pairs and the time decide it
 

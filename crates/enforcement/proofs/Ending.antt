@@ -30,7 +30,7 @@ use Rattle.enforcement.specs.Gate.{testsSelected, keeps, stays, round, r
 use Rattle.enforcement.specs.Reached.{Typed}
 use Rattle.enforcement.specs.declared.states.State.{State}
 use Rattle.enforcement.proofs.Holding.{Holds, rule-means}
-use Rattle.enforcement.proofs.Rounds.{has-below, part-same, part-of-part, parts-equal, HasRoles, has-sifted, length-sifted, settled-keeps, settled-fixed}
+use Rattle.selection.proofs.Parts.{has-below, part-same, part-of-part, parts-equal, HasRoles, has-sifted, length-sifted, settled-keeps, settled-fixed}
 
 -- there is at most one largest part
 pub largest-unique : {test : State → Bool} {s : State} {l m : List ℕ} → Largest test s l → Largest test s m → l ≡ m

@@ -36,7 +36,7 @@ use Rattle.enforcement.proofs.Words.{has-put, has-take-out}
 use Rattle.enforcement.proofs.Ranges.{Ranged}
 use Rattle.enforcement.proofs.Holding.{Holds, rule-means}
 use Rattle.enforcement.proofs.Frame.{not-refused, closed-inactive}
-use Rattle.enforcement.proofs.Rounds.{has-below}
+use Rattle.selection.proofs.Parts.{has-below}
 
 -- the checks after one that passes pass
 later-passes : (cause : Bool) (number : ℕ) (later : Checked) → refuseIf cause number later ≡ passes → later ≡ passes

@@ -2,7 +2,6 @@ pub mod Words
 pub mod Ranges
 pub mod Holding
 pub mod Frame
-pub mod Rounds
 pub mod Ending
 pub mod Parts
 pub mod Kept

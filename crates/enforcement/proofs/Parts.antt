@@ -23,7 +23,7 @@ use Rattle.enforcement.specs.Decisions.{Largest}
 use Rattle.enforcement.specs.Plain.{doubled, subsets, before, eachBefore, parts, isWithin, allLists, firstList, isLargest, largestPart}
 use Rattle.enforcement.specs.Reached.{Typed}
 use Rattle.enforcement.specs.declared.states.State.{State}
-use Rattle.enforcement.proofs.Rounds.{part-same, part-first, part-rest}
+use Rattle.selection.proofs.Parts.{part-same, part-first, part-rest}
 use Rattle.enforcement.proofs.Ending.{largest-unique}
 
 -- ---- the subsets of a set

@@ -12,7 +12,7 @@ use Rattle.rules.specs.declared.families.Rule.{Rule}
 use Rattle.rules.specs.declared.families.Rule.the-variants.{Prerequisite, MaxUsers, MaxRoles, MaxPermissions, MaxActive, StaticSeparation, DynamicSeparation, Dependency, TimeContext, LocationContext, HistorySeparation, BindingOfDuty}
 use Rattle.selection.specs.Selection.{family, hasFirst, hasSecond, selects}
 use Rattle.selection.specs.declared.actions.Action.{Action}
-use Rattle.selection.specs.declared.actions.Action.the-variants.{Malformed, Assign, Withdraw, Grant, Take, Open, Activate, Deactivate, Access, Finish, Close, Move, Lost, Clock}
+use Rattle.selection.specs.declared.actions.Action.the-variants.{Assign, Withdraw, Grant, Activate, Deactivate, Access, Close, Move, Lost, Clock}
 use Rattle.selection.specs.Choices.{choiceOf, chosenAt, chosen}
 use Rattle.selection.specs.declared.selection.Choice.{Choice}
 use Rattle.places.specs.declared.Point.{Point}

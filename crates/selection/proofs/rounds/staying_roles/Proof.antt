@@ -1,4 +1,4 @@
--- `enforcement::events::staying_roles` meets its contract. The loop's invariant: the set so far is that of the roles passed that stay.
+-- `selection::rounds::staying_roles` meets its contract. The loop's invariant: the set so far is that of the roles passed that stay.
 -- Assumes nothing.
 use mathlib.Core.Path.{_≡_, refl, _∙_}
 use mathlib.Core.Bool.{not, _&&_}
@@ -9,10 +9,10 @@ use Rattle.sets.specs.Sets.{member, subset, setOf}
 use Rattle.sets.proofs.Members.{with-below}
 use Rattle.sets.proofs.Built.{set-of-in, set-of-out}
 use Rattle.rules.specs.Families.{wordAt}
 use Rattle.selection.specs.Ending.{stayingRoles}
 use borrow.Author.Needs.{needs}
-use Rattle.enforcement.proofs.events.staying_roles.Statement.{statement}
-use Rattle.enforcement.proofs.events.staying_roles.Tie as tie
+use Rattle.selection.proofs.rounds.staying_roles.Statement.{statement}
+use Rattle.selection.proofs.rounds.staying_roles.Tie as tie
 
 abbrev Inv-loop : tie.InvT-loop
 Inv-loop needs dead live staying₀ role₀ staying role = (role ≤ 32) × (staying ≡ setOf role (λ r. not (member dead r) && subset (wordAt needs r) live))

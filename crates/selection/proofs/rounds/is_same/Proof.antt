@@ -1,14 +1,14 @@
--- `enforcement::events::is_same` meets its contract. The loop's invariant: the lists are the same if they are so from i on.
+-- `selection::rounds::is_same` meets its contract. The loop's invariant: the lists are the same if they are so from i on.
 -- Assumes nothing.
 use mathlib.Core.Path.{_≡_, refl, sym, _∙_}
 use Prim.Native.Nat.{_≤_, _-_}
 use native.Mathlib.Omega.{arith}
 use lib.ListN.{drop}
 use Rattle.selection.specs.Ending.{sameLists}
-use Rattle.enforcement.proofs.Settling.{same-next, same-stop, same-end}
+use Rattle.selection.proofs.Settling.{same-next, same-stop, same-end}
 use borrow.Author.Needs.{needs}
-use Rattle.enforcement.proofs.events.is_same.Statement.{statement}
-use Rattle.enforcement.proofs.events.is_same.Tie as tie
+use Rattle.selection.proofs.rounds.is_same.Statement.{statement}
+use Rattle.selection.proofs.rounds.is_same.Tie as tie
 
 abbrev Inv-sessions : tie.InvT-sessions
 Inv-sessions a b i₀ i = (i ≤ 32) × (sameLists a b ≡ sameLists (drop i a) (drop i b))

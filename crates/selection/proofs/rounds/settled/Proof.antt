@@ -1,4 +1,4 @@
--- `enforcement::events::settled` meets its contract. The loop's invariant: what is left to do settles on the same list, and each set has roles of the
+-- `selection::rounds::settled` meets its contract. The loop's invariant: what is left to do settles on the same list, and each set has roles of the
 -- range. The measure is the number of pairs, which each round but the last makes smaller.
 -- Assumes nothing.
 use mathlib.Core.Path.{_≡_, refl, sym, _∙_}
@@ -7,19 +7,19 @@ use lib.ListN.{length}
 use mir.Syntax.{w32}
 use mir.Val.{Fits}
 use Rattle.rules.specs.Families.{wordAt}
 use Rattle.selection.specs.Pairs.{pairCount}
 use Rattle.selection.specs.Ending.{settled, planRound, planSettled}
-use Rattle.enforcement.proofs.Rounds.{HasRoles}
-use Rattle.enforcement.proofs.Settling.{small-roles, turn-roles, turn-end, turn-less, turn-next}
+use Rattle.selection.proofs.Parts.{HasRoles}
+use Rattle.selection.proofs.Settling.{small-roles, turn-roles, turn-end, turn-less, turn-next}
 use borrow.Author.Needs.{needs}
-use Rattle.enforcement.proofs.events.settled.Statement.{statement}
-use Rattle.enforcement.proofs.events.settled.Tie as tie
+use Rattle.selection.proofs.rounds.settled.Statement.{statement}
+use Rattle.selection.proofs.rounds.settled.Tie as tie
 
 abbrev Inv-loop : tie.InvT-loop
-Inv-loop out needs dead kept₀ kept = (length kept ≡ 32) × HasRoles kept × (settled (suc (pairCount kept)) (planRound dead out needs) kept ≡ planSettled dead out needs kept₀)
+Inv-loop dead out needs kept₀ kept = (length kept ≡ 32) × HasRoles kept × (settled (suc (pairCount kept)) (planRound dead out needs) kept ≡ planSettled dead out needs kept₀)
 
 abbrev μ-loop : tie.MeasureT-loop
-μ-loop out needs dead kept₀ kept = pairCount kept
+μ-loop dead out needs kept₀ kept = pairCount kept
 
 loop-holds : tie.Need-loop-holds Inv-loop μ-loop
 unfolding planSettled
@@ -33,17 +33,17 @@ is-same-requires c κs = search needs
 
 returns : tie.Need-returns Inv-loop μ-loop
 returns c =
-    let now = c .before .before .before .before .before .before .loop in
+    let now = c .before .before .before .before .before .before .before .before .loop in
     sym (turn-end _ _ _ (now .kept) _ (now .inv .1) (c .before .before .before .before .round .ensures) (sym (c .before .is-same .ensures) ∙ c .if1 .taken)) ∙ now .inv .2
 
 loop-less : tie.Need-loop-less Inv-loop μ-loop
 loop-less c =
-    let now = c .before .before .before .before .before .before .loop in
+    let now = c .before .before .before .before .before .before .before .before .loop in
     turn-less _ _ _ (now .kept) _ (now .inv .1) (c .before .before .before .before .round .ensures) (sym (c .before .is-same .ensures) ∙ c .if1 .left)
 
 loop-again : tie.Need-loop-again Inv-loop μ-loop
 loop-again c =
-    let now = c .before .before .before .before .before .before .loop in
+    let now = c .before .before .before .before .before .before .before .before .loop in
     let round = c .before .before .before .before .round in (
       search needs,
       turn-roles _ _ _ (now .kept) _ (now .inv .1) (round .ensures),

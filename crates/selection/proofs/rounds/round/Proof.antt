@@ -1,14 +1,14 @@
--- `enforcement::events::round` meets its contract. The loop's invariant: the sets of the sessions passed are those that the round leaves.
+-- `selection::rounds::round` meets its contract. The loop's invariant: the sets of the sessions passed are those that the round leaves.
 -- Assumes nothing.
 use mathlib.Core.Path.{_≡_, refl, _∙_}
 use Prim.Native.Nat.{ℕ, _≤_, _-_}
 use native.Mathlib.Omega.{arith}
 use lib.ListN.{length, take, length-replicate}
 use Rattle.selection.specs.Ending.{planRound}
-use Rattle.enforcement.proofs.Settling.{filled-next, filled-all, round-word, length-round}
+use Rattle.selection.proofs.Settling.{filled-next, filled-all, round-word, length-round}
 use borrow.Author.Needs.{needs}
-use Rattle.enforcement.proofs.events.round.Statement.{statement}
-use Rattle.enforcement.proofs.events.round.Tie as tie
+use Rattle.selection.proofs.rounds.round.Statement.{statement}
+use Rattle.selection.proofs.rounds.round.Tie as tie
 
 abbrev Inv-loop : tie.InvT-loop
 Inv-loop active out needs dead staying less₀ i₀ less i = (i ≤ 32) × (length less ≡ 32) × (take i less ≡ take i (planRound dead out needs active))

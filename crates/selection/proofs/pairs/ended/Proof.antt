@@ -1,15 +1,15 @@
--- `enforcement::events::ended` meets its contract. The loop's invariant: the total is the number of pairs ended in the sessions passed, at most
+-- `selection::pairs::ended` meets its contract. The loop's invariant: the total is the number of pairs ended in the sessions passed, at most
 -- 32 each.
 -- Assumes nothing.
 use mathlib.Core.Path.{_≡_, refl, _∙_, ap}
 use Prim.Native.Nat.{_≤_, _*_, _-_}
 use native.Mathlib.Omega.{arith}
-use lib.ListN.{take}
+use lib.ListN.{length, take}
 use Rattle.selection.specs.Pairs.{endedPairs, pairCount}
-use Rattle.enforcement.proofs.Settling.{ended-next, ended-all}
+use Rattle.selection.proofs.Settling.{ended-next, ended-all}
 use borrow.Author.Needs.{needs}
-use Rattle.enforcement.proofs.events.ended.Statement.{statement}
-use Rattle.enforcement.proofs.events.ended.Tie as tie
+use Rattle.selection.proofs.pairs.ended.Statement.{statement}
+use Rattle.selection.proofs.pairs.ended.Tie as tie
 
 abbrev Inv-loop : tie.InvT-loop
 Inv-loop before after total₀ i₀ total i = (i ≤ 32) × (total ≡ pairCount (take i (endedPairs before after))) × (total ≤ 32 * i)
@@ -24,14 +24,14 @@ loop-holds c = (omega arith, refl, omega arith)
 mul-fewer : tie.Need-mul-fewer Inv-loop μ-loop
 mul-fewer c = search needs
 
-element-copy-out-fewer : tie.Need-element-copy-out-fewer Inv-loop μ-loop
-element-copy-out-fewer c = search needs
+array-read-fewer : tie.Need-array-read-fewer Inv-loop μ-loop
+array-read-fewer c = search needs
 
 mul-fewer-2 : tie.Need-mul-fewer-2 Inv-loop μ-loop
 mul-fewer-2 c = search needs
 
-element-copy-out-fewer-2 : tie.Need-element-copy-out-fewer-2 Inv-loop μ-loop
-element-copy-out-fewer-2 c = search needs
+array-read-fewer-2 : tie.Need-array-read-fewer-2 Inv-loop μ-loop
+array-read-fewer-2 c = search needs
 
 fewer-requires : tie.Need-fewer-requires Inv-loop μ-loop
 fewer-requires c κs = search needs
@@ -47,7 +47,10 @@ loop-less c = search needs
 
 loop-again : tie.Need-loop-again Inv-loop μ-loop
 loop-again c =
-    let now = c .before .before .before .before .loop in (
+    let now = c .before .before .loop in
+    let start = c .before .before .before in
+    let long : length (start .args .t1) ≡ 32 = search needs in
+    let wide : length (start .args .t2) ≡ 32 = search needs in (
       search needs,
       ended-next _ _ (now .i) _ _ (omega arith) (omega arith) (now .inv .1) (c .fewer .ensures .number),
       omega (arith, c .fewer .ensures .small),
@@ -56,6 +59,7 @@ loop-again c =
 returns : tie.Need-returns Inv-loop μ-loop
 returns c =
     let now = c .before .loop in
+    let long : length (c .before .before .args .t1) ≡ 32 = search needs in
     let end : now .i ≡ 32 = omega arith in
     now .inv .1 ∙ ap pairCount (ended-all _ _ (now .i) (omega arith))
 
@@ -67,9 +71,9 @@ ended-spec =
     μ-loop
     loop-holds
     mul-fewer
-    element-copy-out-fewer
+    array-read-fewer
     mul-fewer-2
-    element-copy-out-fewer-2
+    array-read-fewer-2
     fewer-requires
     add-total
     add-i
