@@ -15,17 +15,19 @@ use Rattle.rules.specs.Acceptance.{every, rulesOf, listAccepted}
 use Rattle.rules.proofs.Every.{every-both, every-all}
 use Rattle.rules.specs.declared.families.Rule.{Rule}
 use Rattle.rules.specs.declared.lists.RuleList.{RuleList}
+use Rattle.selection.specs.Lowest.{Lowest, unbroken, broken, lowest}
+use Rattle.selection.specs.Pairs.{endedPairs, pairCount, Part}
+use Rattle.selection.specs.Selection.{selects}
+use Rattle.selection.specs.declared.actions.Action.{Action}
 use Rattle.enforcement.specs.States.{fresh, ruleHolds}
 use Rattle.enforcement.specs.Steps.{actionOf, Checked, passes, refuses, check, target, withActive, isEvent}
-use Rattle.enforcement.specs.Decisions.{Lowest, unbroken, broken, lowest, endedPairs, pairCount, Part, Largest, granted, refused, Verdict}
+use Rattle.enforcement.specs.Decisions.{Largest, granted, refused, Verdict}
 use Rattle.enforcement.specs.Plain.{obeys, lowestBroken, verdict, Plain, refusing, breaking, taking, ending, PlainRun, done, next, plainRequest, plainPassed, plainChecked, plainStep, plainRun}
-use Rattle.enforcement.specs.Selection.{selects}
 use Rattle.enforcement.specs.Gate.{testsSelected, remaining, grantedNext, requestNext, passedNext, checkedNext, decide, stepOf, runOf, compared, comparedRun, decisionOf}
 use Rattle.enforcement.specs.Narrow as narrow
 use Rattle.enforcement.specs.Reached.{Typed, Accepted}
 use Rattle.enforcement.specs.declared.states.State.{State}
 use Rattle.enforcement.specs.declared.steps.Step.{Step}
-use Rattle.enforcement.specs.declared.steps.Action.{Action}
 use Rattle.enforcement.specs.declared.steps.Next.{Next}
 use Rattle.enforcement.proofs.Ranges.{Ranged, action-ranged}
 use Rattle.enforcement.proofs.Frame.{frame, frame-part}

@@ -15,16 +15,17 @@ use Rattle.rules.specs.Families.{isActiveFor}
 use Rattle.rules.specs.declared.families.Rule.{Rule}
 use Rattle.rules.specs.declared.lists.RuleList.{RuleList}
 use Rattle.rules.specs.declared.lists.Slot.{Slot}
+use Rattle.selection.specs.Lowest.{Lowest, unbroken, broken, lowest}
+use Rattle.selection.specs.Pairs.{endedPairs, pairCount}
+use Rattle.selection.specs.Selection.{selects, selectedNumber}
+use Rattle.selection.specs.declared.actions.Action.{Action}
+use Rattle.selection.specs.declared.actions.Action.the-variants.{Malformed, Assign, Withdraw, Grant, Take, Open, Activate, Deactivate, Access, Finish, Close, Move, Lost, Clock}
 use Rattle.enforcement.specs.States.{holdsRole, assignedRole, carries, isOpen, userOf, activeRole, stateAccepted}
 use Rattle.enforcement.specs.Steps.{Checked, passes, refuses, refuseIf, check, target, isEvent, actionOf}
-use Rattle.enforcement.specs.Decisions.{Lowest, unbroken, broken, lowest, endedPairs, pairCount}
-use Rattle.enforcement.specs.Selection.{selects, selectedNumber}
 use Rattle.enforcement.specs.Gate.{testsSelected, remaining, requestNext, passedNext, checkedNext, decide, stepOf}
 use Rattle.enforcement.specs.Words.{wordOf, answerOf}
 use Rattle.enforcement.specs.declared.states.State.{State}
 use Rattle.enforcement.specs.declared.steps.Step.{Step}
-use Rattle.enforcement.specs.declared.steps.Action.{Action}
-use Rattle.enforcement.specs.declared.steps.Action.the-variants.{Malformed, Assign, Withdraw, Grant, Take, Open, Activate, Deactivate, Access, Finish, Close, Move, Lost, Clock}
 use Rattle.enforcement.proofs.AnswerWords.{Fits, word-back}
 use Rattle.enforcement.proofs.Answering.{accepted-length}
 

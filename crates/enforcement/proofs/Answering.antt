@@ -19,10 +19,12 @@ use Rattle.rules.specs.Acceptance.{every, ruleAccepted, rulesOf, listAccepted}
 use Rattle.rules.specs.declared.families.Rule.{Rule}
 use Rattle.rules.specs.declared.families.Rule.the-variants.{Prerequisite, MaxUsers, MaxRoles, MaxPermissions, MaxActive, StaticSeparation, DynamicSeparation, Dependency, TimeContext, LocationContext, HistorySeparation, BindingOfDuty}
 use Rattle.rules.specs.declared.lists.RuleList.{RuleList}
+use Rattle.selection.specs.Pairs.{endedPairs, pairCount}
+use Rattle.selection.specs.Selection.{selects, selectedNumber}
+use Rattle.selection.specs.declared.actions.Action.{Action}
+use Rattle.selection.specs.declared.actions.Action.the-variants.{Move, Lost}
 use Rattle.enforcement.specs.States.{isOpen, userOf, stateAccepted}
 use Rattle.enforcement.specs.Steps.{passes, refuseIf, check, target, actionOf, withActive, withSessions, session, placed}
-use Rattle.enforcement.specs.Decisions.{endedPairs, pairCount}
-use Rattle.enforcement.specs.Selection.{selects, selectedNumber}
 use Rattle.enforcement.specs.Gate.{keeps, stays, round, remaining, refusedNext, passedNext, checkedNext, decide, stepOf}
 use Rattle.enforcement.specs.Deciding.{context, leftOf, stateFrom, answered, configurationOf, stateOf, nextOf, keptEffect, effectNext, eventOf, placedOf}
 use Rattle.enforcement.specs.declared.configurations.Configuration.{Configuration}
@@ -31,13 +33,11 @@ use Rattle.enforcement.specs.declared.kinds.Effect.{Effect}
 use Rattle.enforcement.specs.declared.steps.Answer.{Answer}
 use Rattle.enforcement.specs.declared.states.State.{State}
 use Rattle.enforcement.specs.declared.steps.Step.{Step}
-use Rattle.enforcement.specs.declared.steps.Action.{Action}
-use Rattle.enforcement.specs.declared.steps.Action.the-variants.{Move, Lost}
 use Rattle.enforcement.specs.declared.steps.Answer.the-variants.{Granted, Refused}
 use Rattle.enforcement.specs.declared.steps.Next.{Next}
 use Rattle.enforcement.specs.declared.events.Left.{Left}
 use Rattle.enforcement.proofs.Ranges.{Ranged, action-ranged}
-use Rattle.enforcement.proofs.Settling.{settled-same, sifted-same}
+use Rattle.selection.proofs.Settling.{settled-same, sifted-same}
 
 -- ---- what is left of the active pairs: the sessions, the active pairs and the time decide it
 

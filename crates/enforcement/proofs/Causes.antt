@@ -24,17 +24,18 @@ use Rattle.rules.specs.Acceptance.{rulesOf, listAccepted}
 use Rattle.rules.specs.Families.{wordAt, sessionAt, isActiveFor}
 use Rattle.rules.specs.declared.families.Rule.{Rule}
 use Rattle.rules.specs.declared.lists.RuleList.{RuleList}
+use Rattle.selection.specs.Lowest.{Lowest, unbroken, broken, lowest}
+use Rattle.selection.specs.Selection.{selects}
+use Rattle.selection.specs.declared.actions.Action.{Action}
+use Rattle.selection.specs.declared.actions.Action.the-variants.{Malformed, Assign, Withdraw, Grant, Take, Open, Activate, Deactivate, Access, Finish, Close, Move, Lost, Clock}
 use Rattle.enforcement.specs.States.{assignedRole, holdsRole, carries, isOpen, userOf, positionOf, activeRole, isUnknown, isTime, sessionAccepted, stateAccepted}
 use Rattle.enforcement.specs.Steps.{ranged, actionOf, Checked, passes, refuses, refuseIf, check, target, isEvent}
-use Rattle.enforcement.specs.Decisions.{Lowest, unbroken, broken, lowest, granted, refused}
-use Rattle.enforcement.specs.Selection.{selects}
+use Rattle.enforcement.specs.Decisions.{granted, refused}
 use Rattle.enforcement.specs.Gate.{testsSelected, grantedNext, refusedNext, requestNext, passedNext, checkedNext, decide, stepOf, decisionOf, ruleOf}
 use Rattle.enforcement.specs.Narrow.{numberOf, lowestSelected}
 use Rattle.enforcement.specs.Table.{Writes, Cause, malformed, past, open-already, activate-closed, deactivate-closed, access-closed, close-closed, move-closed, lost-closed, assign-already, grant-already, activate-already, withdraw-not, take-not, deactivate-not, activate-unheld, withdraw-active, access-uncarried, checksOf, FirstCause, Unaccepted, late, user-past, off-grid, keeps-user, keeps-position, keeps-role}
 use Rattle.enforcement.specs.declared.states.State.{State}
 use Rattle.enforcement.specs.declared.steps.Step.{Step}
-use Rattle.enforcement.specs.declared.steps.Action.{Action}
-use Rattle.enforcement.specs.declared.steps.Action.the-variants.{Malformed, Assign, Withdraw, Grant, Take, Open, Activate, Deactivate, Access, Finish, Close, Move, Lost, Clock}
 use Rattle.enforcement.specs.declared.steps.Answer.the-variants.{Broken, Refused}
 use Rattle.enforcement.specs.declared.steps.Next.{Next}
 use Rattle.enforcement.proofs.Ranges.{Ranged, action-ranged}

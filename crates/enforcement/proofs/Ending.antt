@@ -19,17 +19,18 @@ use Rattle.rules.specs.Acceptance.{every}
 use Rattle.rules.proofs.Every.{every-of}
 use Rattle.rules.specs.declared.families.Rule.{Rule}
 use Rattle.rules.specs.declared.families.Rule.the-variants.{Prerequisite, MaxUsers, MaxRoles, MaxPermissions, MaxActive, StaticSeparation, DynamicSeparation, Dependency, TimeContext, LocationContext, HistorySeparation, BindingOfDuty}
+use Rattle.selection.specs.Pairs.{pairCount, Part}
+use Rattle.selection.specs.Selection.{isNeeds, isDuring, isAt, selects}
+use Rattle.selection.specs.declared.actions.Action.{Action}
+use Rattle.selection.specs.declared.actions.Action.the-variants.{Malformed, Assign, Withdraw, Grant, Take, Open, Activate, Deactivate, Access, Finish, Close, Move, Lost, Clock}
 use Rattle.enforcement.specs.States.{positionOf, ruleHolds}
 use Rattle.enforcement.specs.Steps.{withActive, isEvent}
-use Rattle.enforcement.specs.Decisions.{pairCount, Part, Largest}
-use Rattle.enforcement.specs.Selection.{isNeeds, isDuring, isAt, selects}
+use Rattle.enforcement.specs.Decisions.{Largest}
 use Rattle.enforcement.specs.Gate.{testsSelected, keeps, stays, round, remaining}
 use Rattle.enforcement.specs.Reached.{Typed}
 use Rattle.enforcement.specs.declared.states.State.{State}
-use Rattle.enforcement.specs.declared.steps.Action.{Action}
-use Rattle.enforcement.specs.declared.steps.Action.the-variants.{Malformed, Assign, Withdraw, Grant, Take, Open, Activate, Deactivate, Access, Finish, Close, Move, Lost, Clock}
 use Rattle.enforcement.proofs.Holding.{Holds, rule-means}
-use Rattle.enforcement.proofs.Rounds.{has-below, part-same, part-of-part, parts-equal, HasRoles, has-sifted, length-sifted, settled-keeps, settled-fixed}
+use Rattle.selection.proofs.Parts.{has-below, part-same, part-of-part, parts-equal, HasRoles, has-sifted, length-sifted, settled-keeps, settled-fixed}
 
 -- there is at most one largest part
 pub largest-unique : {test : State → Bool} {s : State} {l m : List ℕ} → Largest test s l → Largest test s m → l ≡ m

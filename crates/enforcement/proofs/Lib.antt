@@ -2,17 +2,14 @@ pub mod Words
 pub mod Ranges
 pub mod Holding
 pub mod Frame
-pub mod Rounds
 pub mod Ending
 pub mod Parts
 pub mod Kept
-pub mod Judgement
 pub mod Agreement
 pub mod Reaching
 pub mod Callers
 pub mod Table
 pub mod Causes
-pub mod Choosing
 pub mod Targets
 pub mod AnswerWords
 pub mod Grid

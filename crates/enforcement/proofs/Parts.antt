@@ -17,12 +17,13 @@ use Rattle.sets.proofs.Booleans.{both-true, left-true, right-true, implies, of-
 use Rattle.sets.proofs.Members.{member-low, member-high, member-empty}
 use Rattle.sets.proofs.Width.{half-lt, subset-means}
 use Rattle.rules.specs.Families.{wordAt, hasRole}
+use Rattle.selection.specs.Pairs.{Part}
 use Rattle.enforcement.specs.Steps.{withActive}
-use Rattle.enforcement.specs.Decisions.{Part, Largest}
+use Rattle.enforcement.specs.Decisions.{Largest}
 use Rattle.enforcement.specs.Plain.{doubled, subsets, before, eachBefore, parts, isWithin, allLists, firstList, isLargest, largestPart}
 use Rattle.enforcement.specs.Reached.{Typed}
 use Rattle.enforcement.specs.declared.states.State.{State}
-use Rattle.enforcement.proofs.Rounds.{part-same, part-first, part-rest}
+use Rattle.selection.proofs.Parts.{part-same, part-first, part-rest}
 use Rattle.enforcement.proofs.Ending.{largest-unique}
 
 -- ---- the subsets of a set

@@ -1,6 +1,6 @@
 -- A plan says what the selected rules say: a plan for no rule, one rule more, and all rules of a list.
 -- Assumes nothing.
-use mathlib.Core.Path.{_≡_, refl, sym, ap, _∙_}
+use mathlib.Core.Path.{_≡_, refl, sym, ap, _∙_, subst, fun-ext}
 use mathlib.Core.Bool.{Bool, true, false, not, cond, _&&_, _||_, or-true, or-false, and-true, and-false, false≢true}
 use mathlib.Core.List.{List, [], _∷_}
 use mathlib.Core.Logic.{⊎-elim}
@@ -28,15 +28,19 @@ use Rattle.rules.specs.declared.families.Rule.{Rule}
 use Rattle.rules.specs.declared.families.Rule.the-variants.{Prerequisite, MaxUsers, MaxRoles, MaxPermissions, MaxActive, StaticSeparation, DynamicSeparation, Dependency, TimeContext, LocationContext, HistorySeparation, BindingOfDuty}
 use Rattle.rules.specs.declared.lists.Slot.{Slot}
 use Rattle.rules.specs.declared.sessions.Session.{Session}
+use Rattle.selection.specs.Selection.{first, selects, selectedNumber}
+use Rattle.selection.specs.Choices.{chosen}
+use Rattle.selection.specs.declared.actions.Action.{Action}
+use Rattle.selection.specs.declared.selection.Choice.{Choice}
+use Rattle.selection.specs.Ending.{lets}
 use Rattle.enforcement.specs.States.{positionOf, activeRole}
 use Rattle.enforcement.specs.Steps.{put}
-use Rattle.enforcement.specs.Selection.{first, selectedNumber}
 use Rattle.enforcement.specs.Gate.{keeps}
-use Rattle.enforcement.specs.Deciding.{lets, Planned, Adds, RuledOut, countedPlan}
+use Rattle.enforcement.specs.Deciding.{Planned, Adds, RuledOut, countedPlan}
 use Rattle.enforcement.specs.declared.states.State.{State}
 use Rattle.enforcement.specs.declared.events.Plan.{Plan}
 use Rattle.enforcement.proofs.Words.{set-at, has-put}
-use Rattle.enforcement.proofs.Judgement.{firstRules, number-more, number-le}
+use Rattle.selection.proofs.Judgement.{firstRules, number-more, number-le}
 
 -- ---- a role ruled out session by session
 
@@ -316,3 +320,7 @@ module _ (selected : Rule → Bool) (s : State) (slots : List Slot) where
 
   pub planned-small : (n : ℕ) (plan : Plan) → n ≤ length slots → Planned selected (firstRules n slots) s plan → plan .selected ≤ n
   planned-small n plan within planned = rw (planned .number) (number-le selected slots n within)
+
+-- what is planned by a choice is so by the table
+pub planned-told : (choice : Choice) (action : Action) → ((k : Rule) → chosen choice k ≡ selects action k) → (rules : List Rule) (s : State) (plan : Plan) → Planned (chosen choice) rules s plan → Planned (selects action) rules s plan
+planned-told choice action same rules s plan = subst (λ (selected : Rule → Bool). Planned selected rules s plan) (fun-ext same)

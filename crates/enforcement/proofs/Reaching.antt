@@ -6,6 +6,7 @@ use mathlib.Core.List.{List}
 use Rattle.rules.specs.Acceptance.{rulesOf, listAccepted}
 use Rattle.rules.specs.declared.families.Rule.{Rule}
 use Rattle.rules.specs.declared.lists.RuleList.{RuleList}
+use Rattle.selection.specs.declared.actions.Action.{Action}
 use Rattle.enforcement.specs.Steps.{actionOf, target}
 use Rattle.enforcement.specs.Plain.{obeys}
 use Rattle.enforcement.specs.Gate.{refusedNext, decide, stepOf}
@@ -13,7 +14,6 @@ use Rattle.enforcement.specs.Narrow.{Narrow, refusing, breaking, taking,
 use Rattle.enforcement.specs.Reached.{Accepted, Held, Reached, start, read, stepped}
 use Rattle.enforcement.specs.declared.states.State.{State}
 use Rattle.enforcement.specs.declared.steps.Step.{Step}
-use Rattle.enforcement.specs.declared.steps.Action.{Action}
 use Rattle.enforcement.specs.declared.steps.Answer.the-variants.{Refused}
 use Rattle.enforcement.specs.declared.steps.Next.{Next}
 use Rattle.enforcement.proofs.Ranges.{Ranged, action-ranged}

@@ -14,18 +14,20 @@ use Rattle.sets.proofs.Bounded.{any-same}
 use Rattle.sets.proofs.Members.{member-empty}
 use Rattle.rules.specs.Families.{wordAt, hasRole, permissionsOf}
 use Rattle.rules.specs.declared.families.Rule.{Rule}
+use Rattle.selection.specs.Lowest.{Lowest, unbroken, broken, lowest}
+use Rattle.selection.specs.Pairs.{endedPairs, pairCount}
+use Rattle.selection.specs.Selection.{selects, selectedNumber}
+use Rattle.selection.specs.declared.actions.Action.{Action}
+use Rattle.selection.specs.declared.actions.Action.the-variants.{Finish}
+use Rattle.selection.specs.Judging.{foundOf, judgedOf}
+use Rattle.selection.specs.declared.judging.Found.the-variants as found
+use Rattle.selection.specs.declared.judging.Judged.{Judged}
 use Rattle.enforcement.specs.States.{carries, activeRole, viewOf}
 use Rattle.enforcement.specs.Steps.{Checked, passes, refuses, check, target, isEvent, withHistory, emptied}
-use Rattle.enforcement.specs.Decisions.{Lowest, unbroken, broken, lowest, endedPairs, pairCount}
-use Rattle.enforcement.specs.Selection.{selects, selectedNumber}
 use Rattle.enforcement.specs.Gate.{testsSelected, refusedNext, requestNext, passedNext, checkedNext, decide}
-use Rattle.enforcement.specs.Deciding.{isCarried, foundOf, judgedOf, requestOf, plainNext, eventOf}
+use Rattle.enforcement.specs.Deciding.{isCarried, requestOf, plainNext, eventOf}
 use Rattle.enforcement.specs.declared.states.State.{State}
-use Rattle.enforcement.specs.declared.steps.Action.{Action}
-use Rattle.enforcement.specs.declared.steps.Action.the-variants.{Finish}
 use Rattle.enforcement.specs.declared.steps.Answer.the-variants.{Granted, Broken, Refused}
-use Rattle.enforcement.specs.declared.judging.Found.the-variants as found
-use Rattle.enforcement.specs.declared.judging.Judged.{Judged}
 use Rattle.enforcement.proofs.Agreement.{nothing-lost, none-ended}
 
 -- ---- a step by its checks

@@ -15,10 +15,10 @@ use Rattle.sets.proofs.Booleans.{both}
 use Rattle.rules.specs.Acceptance.{rulesOf, listAccepted}
 use Rattle.rules.specs.declared.families.Rule.{Rule}
 use Rattle.rules.specs.declared.lists.RuleList.{RuleList}
+use Rattle.selection.specs.Selection.{selects, selectedNumber}
 use Rattle.enforcement.specs.States.{fresh, stateAccepted}
 use Rattle.enforcement.specs.Steps.{actionOf}
 use Rattle.enforcement.specs.Decisions.{granted, refused}
-use Rattle.enforcement.specs.Selection.{selects, selectedNumber}
 use Rattle.enforcement.specs.Gate.{decide, stepOf, runOf, decisionOf, ruleOf, selectedOf, endedOf, comparedRun}
 use Rattle.enforcement.specs.Reached.{Accepted}
 use Rattle.enforcement.specs.Words.{packedOf, wordOf}

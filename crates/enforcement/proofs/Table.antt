@@ -14,15 +14,15 @@ use Rattle.rules.specs.Acceptance.{rulesOf}
 use Rattle.rules.specs.declared.families.Rule.{Rule}
 use Rattle.rules.specs.declared.families.Rule.the-variants.{Prerequisite, MaxUsers, MaxRoles, MaxPermissions, MaxActive, StaticSeparation, DynamicSeparation, Dependency, TimeContext, LocationContext, HistorySeparation, BindingOfDuty}
 use Rattle.rules.specs.declared.lists.RuleList.{RuleList}
+use Rattle.selection.specs.Selection.{family, selects, selectedNumber, hasFirst, hasSecond, names}
+use Rattle.selection.specs.declared.actions.Action.{Action}
+use Rattle.selection.specs.declared.actions.Action.the-variants.{Malformed, Assign, Withdraw, Grant, Take, Open, Activate, Deactivate, Access, Finish, Close, Move, Lost, Clock}
 use Rattle.enforcement.specs.Steps.{actionOf}
 use Rattle.enforcement.specs.Decisions.{granted, refused}
-use Rattle.enforcement.specs.Selection.{family, selects, selectedNumber, hasFirst, hasSecond, names}
 use Rattle.enforcement.specs.Gate.{stepOf, decisionOf, selectedOf}
 use Rattle.enforcement.specs.Table.{Selected, assign-before, assign-max-users, assign-max-roles, assign-apart-first, assign-apart-second, withdraw-before, grant-max-permissions, activate-max-active, activate-apart-first, activate-apart-second, activate-needs, activate-during, activate-at, deactivate-needs, access-two-hands-first, access-two-hands-second, access-same-hand-first, access-same-hand-second, close-needs, move-at, move-needs, lost-at, lost-needs, clock-during, clock-needs}
 use Rattle.enforcement.specs.declared.states.State.{State}
 use Rattle.enforcement.specs.declared.steps.Step.{Step}
-use Rattle.enforcement.specs.declared.steps.Action.{Action}
-use Rattle.enforcement.specs.declared.steps.Action.the-variants.{Malformed, Assign, Withdraw, Grant, Take, Open, Activate, Deactivate, Access, Finish, Close, Move, Lost, Clock}
 use Rattle.enforcement.proofs.Causes.{by-outcome, check-below, same-refusal, not-granted}
 
 -- ---- a rule by its family's number

@@ -18,12 +18,12 @@ use Rattle.rules.specs.declared.sessions.Session.{Session}
 use Rattle.places.specs.declared.Point.{Point}
 use Rattle.places.specs.declared.Position.{Position}
 use Rattle.places.specs.declared.Position.the-variants.{Unknown, Known}
+use Rattle.selection.specs.declared.actions.Action.{Action}
+use Rattle.selection.specs.declared.actions.Action.the-variants.{Malformed, Assign, Withdraw, Grant, Take, Open, Activate, Deactivate, Access, Finish, Close, Move, Lost, Clock}
 use Rattle.enforcement.specs.States.{assignedRole, carries, isOpen, userOf, positionOf, activeRole, did}
 use Rattle.enforcement.specs.Steps.{put, takeOut, emptied, session, placed, target, isEvent}
 use Rattle.enforcement.specs.Reached.{Typed}
 use Rattle.enforcement.specs.declared.states.State.{State}
-use Rattle.enforcement.specs.declared.steps.Action.{Action}
-use Rattle.enforcement.specs.declared.steps.Action.the-variants.{Malformed, Assign, Withdraw, Grant, Take, Open, Activate, Deactivate, Access, Finish, Close, Move, Lost, Clock}
 use Rattle.enforcement.proofs.Words.{has-put, has-take-out, has-set-empty, word-emptied, session-set}
 
 -- one observation is the same in both states

@@ -1,76 +1,36 @@
 -- What the code computes on the way to a decision. No reader has to believe these: each is only cited by a private contract, and what a
 -- step gives is stated by `stepOf`.
 -- Assumes nothing.
-use Prim.Native.Nat.{ℕ, suc, _+_, _^_, _≤_, _<_}
+use Prim.Native.Nat.{ℕ, _+_, _^_, _<_}
 use mathlib.Core.Path.{_≡_}
 use mathlib.Core.Bool.{Bool, true, not, cond, _&&_, _||_}
 use mathlib.Core.List.{List, []}
 use lib.Dec.{eqb, ltb}
 use lib.ListN.{length, set}
-use Rattle.sets.specs.Sets.{member, union, difference, subset, any, oneIf, count, setOf, unionOf}
+use Rattle.sets.specs.Sets.{member, any, oneIf}
 use Rattle.places.specs.Places.{sideHolds}
 use Rattle.places.specs.declared.Position.{Position}
 use Rattle.places.specs.declared.Side.{Side}
-use Rattle.rules.specs.Families.{View, wordAt, hasRole, sessionAt, holds}
+use Rattle.rules.specs.Families.{wordAt, hasRole, sessionAt}
 use Rattle.rules.specs.declared.families.Rule.{Rule}
 use Rattle.rules.specs.declared.sessions.Session.{Session}
+use Rattle.selection.specs.Lowest.{lowest}
+use Rattle.selection.specs.Pairs.{endedPairs, pairCount}
+use Rattle.selection.specs.Selection.{selects, selectedNumber}
+use Rattle.selection.specs.Ending.{lets}
+use Rattle.selection.specs.declared.actions.Action.{Action}
 use Rattle.enforcement.specs.States.{isOpen, activeRole}
 use Rattle.enforcement.specs.Steps.{withActive, placed}
-use Rattle.enforcement.specs.Decisions.{Lowest, unbroken, broken, lowest, endedPairs, pairCount}
-use Rattle.enforcement.specs.Selection.{family, hasFirst, hasSecond, selects, selectedNumber}
-use Rattle.enforcement.specs.Gate.{testsSelected, keeps, stays, sifted, settled, remaining, refusedNext, requestNext}
+use Rattle.enforcement.specs.Gate.{testsSelected, keeps, stays, remaining, refusedNext, requestNext}
 use Rattle.enforcement.specs.declared.states.State.{State}
-use Rattle.enforcement.specs.declared.steps.Action.{Action}
 use Rattle.enforcement.specs.declared.kinds.Effect.{Effect}
 use Rattle.enforcement.specs.declared.configurations.Configuration.{Configuration}
 use Rattle.enforcement.specs.declared.configurations.NextConfiguration.{NextConfiguration}
 use Rattle.enforcement.specs.declared.steps.Answer.{Answer}
 use Rattle.enforcement.specs.declared.steps.Answer.the-variants.{Granted, Refused}
 use Rattle.enforcement.specs.declared.steps.Next.{Next}
-use Rattle.enforcement.specs.declared.selection.Choice.{Choice}
-use Rattle.enforcement.specs.declared.judging.Found.{Found}
-use Rattle.enforcement.specs.declared.judging.Found.the-variants as found
-use Rattle.enforcement.specs.declared.judging.Judged.{Judged}
 use Rattle.enforcement.specs.declared.events.Plan.{Plan}
 use Rattle.enforcement.specs.declared.events.Left.{Left}
-
--- ---- the selection
-
--- the rules of some families, and of others those that name the number first, or second
-abbrev pub choiceOf : ℕ → ℕ → ℕ → ℕ → Choice
-choiceOf whole byFirst bySecond named =
-    record { families = union (union whole byFirst) bySecond; whole = whole; «by_first» = byFirst; «by_second» = bySecond; named = named }
-
--- what a choice says of a rule of family f that names its number first, or second
-abbrev pub chosenAt : Choice → ℕ → Bool → Bool → Bool
-chosenAt choice f isFirst isSecond =
-    member (choice .families) f && (member (choice .whole) f || ((member (choice .«by_first») f && isFirst) || (member (choice .«by_second») f && isSecond)))
-
-unfoldable pub chosen : Choice → Rule → Bool
-chosen choice rule = chosenAt choice (family rule) (hasFirst (choice .named) rule) (hasSecond (choice .named) rule)
-
--- ---- a request
-
-abbrev pub foundOf : Lowest → Found
-foundOf unbroken = found.Nothing
-foundOf (broken n) = found.Rule n
-
--- the lowest broken one of the selected rules, and how many are selected
-unfoldable pub judgedOf : (Rule → Bool) → View → List Rule → Judged
-judgedOf selected v rules =
-    record {
-      broken = foundOf (lowest (λ rule. not (selected rule) || holds rule v) 1 rules);
-      selected = selectedNumber selected rules;
-    }
-
-abbrev pub orFound : Found → Bool → ℕ → Found
-orFound found.Nothing holds number = cond holds found.Nothing (found.Rule number)
-orFound (found.Rule n) holds number = found.Rule n
-
--- one rule more
-unfoldable pub visited : Bool → Bool → Judged → ℕ → Judged
-visited isSelected holds judged number =
-    cond isSelected (record { broken = orFound (judged .broken) holds number; selected = judged .selected + 1 }) judged
 
 -- ---- an event
 
@@ -81,25 +41,6 @@ context sessions active time = record { time = time; assigned = []; granted = []
 -- what is left of the active pairs, and how many rules are selected
 unfoldable pub leftOf : (Rule → Bool) → List Rule → State → Left
 leftOf selected rules s = record { active = remaining selected rules s; selected = selectedNumber selected rules }
-
--- the number of roles of one set that the other has not
-pub record Fewer (before after n : ℕ) : Type 0 where
-  pub number : n ≡ count 32 (member (difference before after))
-  pub small : n ≤ 32
-
--- the roles that are not dead and have all active that they need
-unfoldable pub stayingRoles : ℕ → List ℕ → ℕ → ℕ
-stayingRoles dead needs live = setOf 32 (λ r. not (member dead r) && subset (wordAt needs r) live)
-
--- a plan lets role r stay in session i where the pairs of a list are active
-unfoldable pub lets : ℕ → List ℕ → List ℕ → List ℕ → ℕ → ℕ → Bool
-lets dead out needs l i r = not (hasRole out i r) && (not (member dead r) && subset (wordAt needs r) (unionOf 32 (wordAt l)))
-
-unfoldable pub planRound : ℕ → List ℕ → List ℕ → List ℕ → List ℕ
-planRound dead out needs l = sifted 0 (lets dead out needs l) l
-
-unfoldable pub planSettled : ℕ → List ℕ → List ℕ → List ℕ → List ℕ
-planSettled dead out needs l = settled (suc (pairCount l)) (planRound dead out needs) l
 
 -- a plan says of each active pair what the selected rules say, whatever pairs of roles in range are still active; and how many they are
 pub record Planned (selected : Rule → Bool) (rules : List Rule) (s : State) (plan : Plan) : Type 0 where

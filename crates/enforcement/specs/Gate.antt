@@ -1,11 +1,10 @@
 -- Our gate: it tests the selected rules alone. That this gives what the plain gate gives is proved in proofs/Agreement.antt, and that
 -- what an event leaves is the largest part, in proofs/Ending.antt: no reader has to believe the rounds.
 -- Assumes nothing.
-use Prim.Native.Nat.{ℕ, zero, suc}
+use Prim.Native.Nat.{ℕ, suc}
 use mathlib.Core.Bool.{Bool, true, false, not, cond, _&&_, _||_}
 use mathlib.Core.List.{List, [], _∷_}
 use lib.Dec.{eqb}
-use Rattle.sets.specs.Sets.{member, setOf}
 use Rattle.calendar.specs.Terms.{termHolds}
 use Rattle.places.specs.Places.{sideHolds}
 use Rattle.rules.specs.Families.{isActive}
@@ -13,13 +12,16 @@ use Rattle.rules.specs.Acceptance.{every, rulesOf, listAccepted}
 use Rattle.rules.specs.declared.families.Rule.{Rule}
 use Rattle.rules.specs.declared.families.Rule.the-variants.{Prerequisite, MaxUsers, MaxRoles, MaxPermissions, MaxActive, StaticSeparation, DynamicSeparation, Dependency, TimeContext, LocationContext, HistorySeparation, BindingOfDuty}
 use Rattle.rules.specs.declared.lists.RuleList.{RuleList}
+use Rattle.selection.specs.Lowest.{Lowest, unbroken, broken, lowest}
+use Rattle.selection.specs.Pairs.{endedPairs, pairCount}
+use Rattle.selection.specs.Selection.{selects, selectedNumber}
+use Rattle.selection.specs.Ending.{sifted, settled}
+use Rattle.selection.specs.declared.actions.Action.{Action}
 use Rattle.enforcement.specs.States.{positionOf, ruleHolds, stateAccepted}
 use Rattle.enforcement.specs.Steps.{actionOf, Checked, passes, refuses, check, target, withActive, isEvent}
-use Rattle.enforcement.specs.Decisions.{Lowest, unbroken, broken, lowest, endedPairs, pairCount, Decision, granted, refused, Verdict}
-use Rattle.enforcement.specs.Selection.{selects, selectedNumber}
+use Rattle.enforcement.specs.Decisions.{Decision, granted, refused, Verdict}
 use Rattle.enforcement.specs.declared.states.State.{State}
 use Rattle.enforcement.specs.declared.steps.Step.{Step}
-use Rattle.enforcement.specs.declared.steps.Action.{Action}
 use Rattle.enforcement.specs.declared.steps.Answer.{Answer}
 use Rattle.enforcement.specs.declared.steps.Answer.the-variants.{Granted, Broken, Refused}
 use Rattle.enforcement.specs.declared.steps.Next.{Next}
@@ -49,25 +51,9 @@ keeps (BindingOfDuty p q) s l i r = true
 abbrev pub stays : (Rule → Bool) → List Rule → State → List ℕ → ℕ → ℕ → Bool
 stays selected rules s l i r = every (λ rule. not (selected rule) || keeps rule s l i r) rules
 
--- the pairs of a list that pass the test, its sessions counted from i on
-unfoldable pub sifted : ℕ → (ℕ → ℕ → Bool) → List ℕ → List ℕ
-sifted i test [] = []
-sifted i test (roles ∷ rest) = setOf 32 (λ r. member roles r && test i r) ∷ sifted (suc i) test rest
-
 -- one round
 unfoldable pub round : (Rule → Bool) → List Rule → State → List ℕ → List ℕ
 round selected rules s l = sifted 0 (stays selected rules s l) l
-
-unfoldable pub sameLists : List ℕ → List ℕ → Bool
-sameLists [] [] = true
-sameLists [] (b ∷ m) = false
-sameLists (a ∷ l) [] = false
-sameLists (a ∷ l) (b ∷ m) = eqb a b && sameLists l m
-
--- rounds until nothing changes, at most k
-unfoldable pub settled : ℕ → (List ℕ → List ℕ) → List ℕ → List ℕ
-settled zero f l = l
-settled (suc k) f l = cond (sameLists l (f l)) l (settled k f (f l))
 
 -- what is left of a state's active pairs
 unfoldable pub remaining : (Rule → Bool) → List Rule → State → List ℕ

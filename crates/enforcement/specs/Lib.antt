@@ -2,7 +2,6 @@ pub mod States
 pub mod Steps
 pub mod Decisions
 pub mod Plain
-pub mod Selection
 pub mod Gate
 pub mod Reached
 pub mod Narrow

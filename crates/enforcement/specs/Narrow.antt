@@ -7,12 +7,13 @@ use mathlib.Core.Bool.{Bool, true, false}
 use mathlib.Core.List.{List}
 use Rattle.rules.specs.Acceptance.{every}
 use Rattle.rules.specs.declared.families.Rule.{Rule}
+use Rattle.selection.specs.Lowest.{Lowest, unbroken, broken, lowest}
+use Rattle.selection.specs.Selection.{selects, selectedNumber}
+use Rattle.selection.specs.declared.actions.Action.{Action}
 use Rattle.enforcement.specs.Steps.{passes, refuses, check, target, withActive, isEvent}
-use Rattle.enforcement.specs.Decisions.{Lowest, unbroken, broken, lowest, Largest}
-use Rattle.enforcement.specs.Selection.{selects, selectedNumber}
+use Rattle.enforcement.specs.Decisions.{Largest}
 use Rattle.enforcement.specs.Gate.{testsSelected, grantedNext, refusedNext}
 use Rattle.enforcement.specs.declared.states.State.{State}
-use Rattle.enforcement.specs.declared.steps.Action.{Action}
 use Rattle.enforcement.specs.declared.steps.Answer.the-variants.{Broken, Refused}
 use Rattle.enforcement.specs.declared.steps.Next.{Next}
 

@@ -9,12 +9,14 @@ use lib.Dec.{eqb}
 use Rattle.sets.specs.Sets.{subset}
 use Rattle.rules.specs.Acceptance.{every}
 use Rattle.rules.specs.declared.families.Rule.{Rule}
+use Rattle.selection.specs.Lowest.{Lowest, unbroken, broken, lowest}
+use Rattle.selection.specs.Pairs.{endedPairs, pairCount}
+use Rattle.selection.specs.declared.actions.Action.{Action}
 use Rattle.enforcement.specs.States.{ruleHolds}
 use Rattle.enforcement.specs.Steps.{actionOf, Checked, passes, refuses, check, target, withActive, isEvent}
-use Rattle.enforcement.specs.Decisions.{Lowest, unbroken, broken, lowest, endedPairs, pairCount, Largest, Decision, granted, refused, Verdict}
+use Rattle.enforcement.specs.Decisions.{Largest, Decision, granted, refused, Verdict}
 use Rattle.enforcement.specs.declared.states.State.{State}
 use Rattle.enforcement.specs.declared.steps.Step.{Step}
-use Rattle.enforcement.specs.declared.steps.Action.{Action}
 
 -- every rule holds
 abbrev pub obeys : List Rule → State → Bool

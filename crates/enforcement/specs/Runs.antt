@@ -9,11 +9,11 @@ use lib.ListN.{length, drop}
 use Rattle.rules.specs.Acceptance.{rulesOf, listAccepted}
 use Rattle.rules.specs.declared.families.Rule.{Rule}
 use Rattle.rules.specs.declared.lists.RuleList.{RuleList}
+use Rattle.selection.specs.Selection.{selects, selectedNumber}
 use Rattle.enforcement.specs.States.{fresh, stateAccepted}
 use Rattle.enforcement.specs.Steps.{actionOf}
 use Rattle.enforcement.specs.Decisions.{Decision, granted, refused, Verdict}
 use Rattle.enforcement.specs.Plain.{plainRun}
-use Rattle.enforcement.specs.Selection.{selects, selectedNumber}
 use Rattle.enforcement.specs.Gate.{runOf}
 use Rattle.enforcement.specs.Words.{packedOf, wordOf}
 use Rattle.enforcement.specs.declared.states.State.{State}

@@ -12,11 +12,11 @@ use Rattle.places.specs.declared.Position.{Position}
 use Rattle.places.specs.declared.Position.the-variants.{Unknown, Known}
 use Rattle.rules.specs.Families.{wordAt, closedSession, isActiveFor}
 use Rattle.rules.specs.declared.sessions.Session.{Session}
+use Rattle.selection.specs.declared.actions.Action.{Action}
+use Rattle.selection.specs.declared.actions.Action.the-variants.{Malformed, Assign, Withdraw, Grant, Take, Open, Activate, Deactivate, Access, Finish, Close, Move, Lost, Clock}
 use Rattle.enforcement.specs.States.{assignedRole, holdsRole, carries, isOpen, userOf, activeRole, isTime}
 use Rattle.enforcement.specs.declared.states.State.{State}
 use Rattle.enforcement.specs.declared.steps.Step.{Step}
-use Rattle.enforcement.specs.declared.steps.Action.{Action}
-use Rattle.enforcement.specs.declared.steps.Action.the-variants.{Malformed, Assign, Withdraw, Grant, Take, Open, Activate, Deactivate, Access, Finish, Close, Move, Lost, Clock}
 
 -- ---- "step's number, its kind's included, outside its range" is 20
 

@@ -13,11 +13,11 @@ use Rattle.places.specs.declared.Point.{Point}
 use Rattle.places.specs.declared.Side.{Side}
 use Rattle.rules.specs.declared.families.Rule.{Rule}
 use Rattle.rules.specs.declared.families.Rule.the-variants.{Prerequisite, MaxUsers, MaxRoles, MaxPermissions, MaxActive, StaticSeparation, DynamicSeparation, Dependency, TimeContext, LocationContext, HistorySeparation, BindingOfDuty}
+use Rattle.selection.specs.declared.actions.Action.{Action}
+use Rattle.selection.specs.declared.actions.Action.the-variants.{Malformed, Assign, Withdraw, Grant, Take, Open, Activate, Deactivate, Access, Finish, Close, Move, Lost, Clock}
 use Rattle.enforcement.specs.States.{assignedRole, holdsRole, carries, isOpen, userOf, positionOf, activeRole}
 use Rattle.enforcement.specs.declared.states.State.{State}
 use Rattle.enforcement.specs.declared.steps.Step.{Step}
-use Rattle.enforcement.specs.declared.steps.Action.{Action}
-use Rattle.enforcement.specs.declared.steps.Action.the-variants.{Malformed, Assign, Withdraw, Grant, Take, Open, Activate, Deactivate, Access, Finish, Close, Move, Lost, Clock}
 
 -- ---- "Rules selected"
 

@@ -9,13 +9,13 @@ ghost use Rattle.enforcement.specs.Gate.{decide};
 ghost use Rattle.enforcement.specs.Deciding.{stateOf, nextOf};
 use crate::kinds;
 use crate::states::State;
-use crate::steps::Action;
 use crate::steps::Answer;
 use crate::steps::Step;
 use places::Point;
 use places::Position;
 use rules::RuleList;
 use rules::Session;
+use selection::Action;
 
 // A state but for its history, which is lent beside it: what goes by value is copied at each call, and of a state's 9 KB the history has 8.
 pub struct Configuration {

@@ -7,21 +7,21 @@ ghost use Rattle.sets.specs.Sets.{member, unionOf};
 ghost use Rattle.places.specs.Places.{sideHolds};
 ghost use Rattle.rules.specs.Acceptance.{rulesOf};
 ghost use Rattle.rules.specs.Families.{wordAt};
-ghost use Rattle.enforcement.specs.Decisions.{endedPairs, pairCount};
-ghost use Rattle.enforcement.specs.Selection.{selects};
-ghost use Rattle.enforcement.specs.Gate.{sameLists};
-ghost use Rattle.enforcement.specs.Deciding.{chosen, context, leftOf, Fewer, Planned, Adds, RuledOut, countedPlan, stayingRoles, planRound, planSettled};
-use crate::selection::Choice;
-use crate::selection::choice_of;
-use crate::selection::first_of;
-use crate::selection::is_chosen;
-use crate::steps::Action;
+ghost use Rattle.selection.specs.Selection.{selects};
+ghost use Rattle.selection.specs.Choices.{chosen};
+ghost use Rattle.enforcement.specs.Deciding.{context, leftOf, Planned, Adds, RuledOut, countedPlan};
 use places::Position;
 use places::Side;
 use rules::Rule;
 use rules::RuleList;
 use rules::Session;
 use rules::tests::active_somewhere;
+use selection::Action;
+use selection::Choice;
+use selection::rounds::settled;
+use selection::selection::choice_of;
+use selection::selection::first_of;
+use selection::selection::is_chosen;
 use sets::word32;
 
 // What the selected rules say of each pair, whatever else is active.
@@ -53,33 +53,14 @@ pub(crate) fn end_roles(
 {
     let plan = plan_of(list, action, sessions, active, time);
     let dead = plan.dead;
-    let kept = settled(copied(active), &plan.out, &plan.needs, dead);
+    let out = plan.out;
+    let needs = plan.needs;
+    let kept = settled(copied(active), out, needs, dead);
     Left {
         active: kept,
         selected: plan.selected,
     }
 }
-
-// The pairs active before and not after.
-pub(crate) fn ended<'a>(before: &'a [u32; 32], after: &'a [u32; 32]) -> usize
-    requires { ⌜ (length (now before) ≡ 32) × (length (now after) ≡ 32) ⌝ }
-    ensures { λ r. ⌜ r ≡ pairCount (endedPairs (now (before .entry)) (now (after .entry))) ⌝ }
-{
-    let mut total: usize = 0;
-    for i in 0..32 {
-        total += fewer(before[i], after[i]);
-    }
-    total
-}
-
-// The roles of one set that the other has not.
-pub(crate) fn fewer(before: u32, after: u32) -> usize
-    ensures { λ r. ⌜ Fewer before after r ⌝ }
-{
-    word32::count(word32::difference(before, after)) as usize
-}
-
-// ---- the plan
 
 fn plan_of(
     list: RuleList,
@@ -240,72 +221,9 @@ fn is_misplaced(roles: u32, role: usize, side: Side, position: Position) -> bool
     !side.holds(position)
 }
 
-// ---- the rounds
-
 // The sets by value: then each is known to fit its word.
 pub(crate) fn copied(active: &[u32; 32]) -> [u32; 32]
     ensures { λ r. ⌜ r ≡ now (active .entry) ⌝ }
 {
     *active
-}
-
-// Rounds until nothing changes.
-fn settled<'a>(active: [u32; 32], out: &'a [u32; 32], needs: &'a [u32; 32], dead: u32) -> [u32; 32]
-    ensures { λ r. ⌜ r ≡ planSettled dead (now (out .entry)) (now (needs .entry)) active ⌝ }
-{
-    let mut kept = active;
-    loop {
-        let less = round(&kept, out, needs, dead);
-        if is_same(&kept, &less) {
-            return kept;
-        }
-        kept = less;
-    }
-}
-
-// One round: each pair stays that the plan lets stay where these pairs are active.
-fn round<'a>(
-    active: &'a [u32; 32],
-    out: &'a [u32; 32],
-    needs: &'a [u32; 32],
-    dead: u32,
-) -> [u32; 32]
-    requires { ⌜ length (now active) ≡ 32 ⌝ }
-    ensures { λ r. ⌜ r ≡ planRound dead (now (out .entry)) (now (needs .entry)) (now (active .entry)) ⌝ }
-{
-    let staying = staying_roles(needs, dead, active_somewhere(active));
-    let mut less = [0u32; 32];
-    for i in 0..32 {
-        less[i] = word32::difference(word32::intersection(active[i], staying), out[i]);
-    }
-    less
-}
-
-// The roles that are not dead and have all active that they need.
-fn staying_roles(needs: &[u32; 32], dead: u32, live: u32) -> u32
-    ensures { λ r. ⌜ r ≡ stayingRoles dead (now (needs .entry)) live ⌝ }
-{
-    let mut staying: u32 = 0;
-    for role in 0..32 {
-        if !word32::member(dead, role) & word32::is_subset(needs[role], live) {
-            staying = word32::with(staying, role);
-        }
-    }
-    staying
-}
-
-fn is_same<'a>(a: &'a [u32; 32], b: &'a [u32; 32]) -> bool
-    requires { ⌜ (length (now a) ≡ 32) × (length (now b) ≡ 32) ⌝ }
-    ensures { λ r. ⌜ r ≡ sameLists (now (a .entry)) (now (b .entry)) ⌝ }
-{
-    let mut i: usize = 0;
-    'sessions: loop {
-        if i == 32 {
-            break 'sessions true;
-        }
-        if a[i] != b[i] {
-            break 'sessions false;
-        }
-        i += 1;
-    }
 }

@@ -12,15 +12,15 @@ ghost use Rattle.enforcement.specs.Gate.{decide};
 ghost use Rattle.enforcement.specs.Deciding.{stateFrom, answered, effectNext, keptEffect, isCarried, requestOf, eventOf, placedOf};
 use crate::events::copied;
 use crate::events::end_roles;
-use crate::events::ended;
-use crate::events::fewer;
-use crate::judging::Found;
-use crate::judging::judge;
-use crate::steps::Action;
 use crate::steps::Answer;
 use places::Position;
 use rules::RuleList;
 use rules::Session;
+use selection::Action;
+use selection::Found;
+use selection::judge;
+use selection::pairs::ended;
+use selection::pairs::fewer;
 use sets::word32;
 use sets::word64;
 
@@ -569,12 +569,12 @@ fn after_event(
     active: &mut [u32; 32],
     time: u64,
 ) -> Answer
-    requires { ⌜ (list .length ≤ 128) × (length before ≡ 32) × (length (now active) ≡ 32) ⌝ }
+    requires { ⌜ (list .length ≤ 128) × (length (now active) ≡ 32) ⌝ }
     ensures { λ r. ⌜ ((assigned granted history : List ℕ) → answered (stateFrom time assigned granted sessions (now (active .exit)) history) r ≡ eventOf (rulesOf list) before (stateFrom time assigned granted sessions (now (active .entry)) history) action) ⌝ }
 {
     let left = end_roles(list, action, sessions, active, time);
     let kept = left.active;
-    let total = ended(&before, &kept);
+    let total = ended(before, kept);
     *active = kept;
     Answer::Granted {
         selected: left.selected,

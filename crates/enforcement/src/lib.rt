@@ -2,18 +2,16 @@
 mod acceptance;
 mod configurations;
 mod events;
-mod judging;
 mod kinds;
 mod runs;
-pub mod selection;
 pub mod states;
 pub mod steps;
 
 pub use rules::Session;
 pub use runs::Ran;
 pub use runs::run;
+pub use selection::Action;
 pub use states::State;
-pub use steps::Action;
 pub use steps::Answer;
 pub use steps::Next;
 pub use steps::Step;

@@ -5,6 +5,7 @@ ghost use Rattle.enforcement.specs.Steps.{ranged, moveOf, actionOf};
 ghost use Rattle.enforcement.specs.Words.{packedOf, wordOf, answerOf};
 use crate::states::State;
 use places::Point;
+use selection::Action;
 
 // Plain numbers, wide enough for any that a text can hold. Those that a kind does not use are not looked at.
 pub struct Step {
@@ -133,60 +134,6 @@ impl Step {
             _ => Action::Malformed,
         }
     }
-}
-
-// A step whose numbers are in range, or one that 20 refuses.
-pub enum Action {
-    Malformed,
-    Assign {
-        user: usize,
-        role: usize,
-    },
-    Withdraw {
-        user: usize,
-        role: usize,
-    },
-    Grant {
-        role: usize,
-        permission: usize,
-    },
-    Take {
-        role: usize,
-        permission: usize,
-    },
-    Open {
-        session: usize,
-        user: usize,
-    },
-    Activate {
-        session: usize,
-        role: usize,
-    },
-    Deactivate {
-        session: usize,
-        role: usize,
-    },
-    Access {
-        session: usize,
-        permission: usize,
-        object: usize,
-    },
-    Finish {
-        object: usize,
-    },
-    Close {
-        session: usize,
-    },
-    Move {
-        session: usize,
-        point: Point,
-    },
-    Lost {
-        session: usize,
-    },
-    Clock {
-        time: u64,
-    },
 }
 
 // What the gate answers to a step.

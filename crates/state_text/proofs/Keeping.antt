@@ -19,12 +19,12 @@ use Rattle.places.specs.declared.Position.{Position}
 use Rattle.places.specs.declared.Position.the-variants.{Unknown, Known}
 use Rattle.rules.specs.Families.{wordAt, hasRole, closedSession, sessionAt}
 use Rattle.rules.specs.declared.sessions.Session.{Session}
+use Rattle.selection.specs.declared.actions.Action.{Action}
+use Rattle.selection.specs.declared.actions.Action.the-variants as step
 use Rattle.enforcement.specs.States.{fresh, assignedRole, holdsRole, isOpen, userOf, positionOf, activeRole, isTime, isUnknown, sessionAccepted, stateAccepted}
 use Rattle.enforcement.specs.Steps.{passes, check, target, put, session, withSessions}
 use Rattle.enforcement.specs.Reached.{Typed, Accepted, Held}
 use Rattle.enforcement.specs.declared.states.State.{State}
-use Rattle.enforcement.specs.declared.steps.Action.{Action}
-use Rattle.enforcement.specs.declared.steps.Action.the-variants as step
 use Rattle.enforcement.proofs.Kept.{accepted-target, held-target, fresh-accepted, fresh-held}
 use Rattle.enforcement.proofs.Ranges as ranges
 use Rattle.state_text.specs.Entries.{rank, withLine, rests}

@@ -10,8 +10,8 @@ use lib.ListN.{length, take, drop, length-append}
 use Rattle.forms.proofs.Turns.{rest}
 use Rattle.rules.specs.Acceptance.{rulesOf, listAccepted}
 use Rattle.rules.specs.declared.lists.RuleList.{RuleList}
+use Rattle.selection.specs.Lowest.{Lowest, unbroken, broken, lowest}
 use Rattle.enforcement.specs.States.{fresh, ruleHolds}
-use Rattle.enforcement.specs.Decisions.{Lowest, unbroken, broken, lowest}
 use Rattle.enforcement.specs.declared.states.State.{State}
 use Rattle.state_text.specs.Entries.{lineText, rank, follows, inOrder, withLine, rests}
 use Rattle.state_text.specs.Reading.{readLine, entryIn, lengthIn, Loading, loaded, refused, verdict, readFrom, readLines, unlessBroken, underRules, readState, loadedOf}

@@ -12,7 +12,7 @@ use Rattle.rules.specs.Acceptance.{every, ruleOf}
 use Rattle.rules.specs.declared.families.Rule.{Rule}
 use Rattle.rules.specs.declared.lists.Slot.{Slot}
 use Rattle.rules.proofs.Every.{everyFirst}
-use Rattle.enforcement.specs.Decisions.{unbroken, broken, lowest}
+use Rattle.selection.specs.Lowest.{unbroken, broken, lowest}
 
 -- no rule is the lowest broken one where every rule holds
 pub every-unbroken : (test : Rule → Bool) (n : ℕ) (rules : List Rule) → every test rules ≡ true → lowest test n rules ≡ unbroken

@@ -12,8 +12,8 @@ use Rattle.sets.proofs.Booleans.{clash}
 use Rattle.rules.specs.Acceptance.{rulesOf, listAccepted}
 use Rattle.rules.specs.declared.families.Rule.{Rule}
 use Rattle.rules.specs.declared.lists.RuleList.{RuleList}
+use Rattle.selection.specs.Lowest.{Lowest, unbroken, broken, lowest}
 use Rattle.enforcement.specs.States.{fresh, ruleHolds}
-use Rattle.enforcement.specs.Decisions.{Lowest, unbroken, broken, lowest}
 use Rattle.enforcement.specs.Plain.{obeys}
 use Rattle.enforcement.specs.declared.states.State.{State}
 use Rattle.enforcement.proofs.Agreement.{lowest-none}

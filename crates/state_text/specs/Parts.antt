@@ -7,7 +7,7 @@ use lib.Dec.{eqb}
 use Rattle.sets.specs.Sets.{member}
 use Rattle.rules.specs.Families.{wordAt}
 use Rattle.rules.specs.declared.sessions.Session.{Session}
-use Rattle.enforcement.specs.Decisions.{Lowest, unbroken, broken}
+use Rattle.selection.specs.Lowest.{Lowest, unbroken, broken}
 use Rattle.enforcement.specs.declared.states.State.{State}
 use Rattle.state_text.specs.Entries.{inOrder, rests}
 use Rattle.state_text.specs.Saving.{over, only, placeLines}

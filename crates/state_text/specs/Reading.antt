@@ -10,8 +10,8 @@ use Rattle.forms.specs.Tables.{formAt, found}
 use Rattle.forms.specs.declared.tables.Found.{Found}
 use Rattle.rules.specs.Acceptance.{rulesOf, listAccepted}
 use Rattle.rules.specs.declared.lists.RuleList.{RuleList}
+use Rattle.selection.specs.Lowest.{Lowest, unbroken, broken, lowest}
 use Rattle.enforcement.specs.States.{fresh, ruleHolds}
-use Rattle.enforcement.specs.Decisions.{Lowest, unbroken, broken, lowest}
 use Rattle.enforcement.specs.declared.states.State.{State}
 use Rattle.state_text.specs.Entries.{savedForms, entryOf, rank, inOrder, withLine, rests}
 use Rattle.state_text.specs.declared.entries.Entry.{Entry}

@@ -2,8 +2,8 @@
 ghost use mathlib.Core.Path.{_≡_};
 ghost use Prim.Native.Nat.{_≤_};
 ghost use Rattle.rules.specs.Acceptance.{rulesOf};
+ghost use Rattle.selection.specs.Lowest.{lowest};
 ghost use Rattle.enforcement.specs.States.{ruleHolds};
-ghost use Rattle.enforcement.specs.Decisions.{lowest};
 ghost use Rattle.state_text.specs.Parts.{lowestOf};
 use enforcement::State;
 use rules::Rule;

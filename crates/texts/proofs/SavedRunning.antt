@@ -9,8 +9,8 @@ use lib.Dec.{eqb, ltb, leb}
 use borrow.Author.Tests.{lt-ltb, le-ltb, le-leb, lt-leb, leb-true, leb-false, eqb-true, eqb-false, eq-eqb, ne-eqb}
 use Rattle.rules.specs.Acceptance.{rulesOf, listAccepted}
 use Rattle.rules.specs.declared.lists.RuleList.{RuleList}
+use Rattle.selection.specs.Lowest.{Lowest, unbroken, broken, lowest}
 use Rattle.enforcement.specs.States.{fresh, ruleHolds, stateAccepted}
-use Rattle.enforcement.specs.Decisions.{Lowest, unbroken, broken, lowest}
 use Rattle.enforcement.specs.Gate.{stepOf, runOf}
 use Rattle.enforcement.specs.Runs.{lastState}
 use Rattle.enforcement.specs.Reached.{Accepted}

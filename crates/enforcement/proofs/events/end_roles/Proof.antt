@@ -24,9 +24,9 @@ settled-requires c κs = search needs
 returns : tie.Need-returns
 unfolding leftOf
 returns c =
-    let copied = c .before .before .before .before .copied in
-    let planned = c .before .before .before .before .before .plan-of in
-    let start = c .before .before .before .before .before .before in
+    let copied = c .before .copied in
+    let planned = c .before .before .before .before .plan-of in
+    let start = c .before .before .before .before .before in
     let small : (j : ℕ) → wordAt (start .args .active .now) j < 2 ^ 32 =
     λ j. let fits : Fits w32 (wordAt (copied .result) j) = search needs in (rw (copied .ensures) at fits) .fits in
     let left = plan-settles _ _ _ _ (start .pre .1) small (planned .ensures) in

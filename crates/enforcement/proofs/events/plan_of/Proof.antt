@@ -4,10 +4,10 @@ use mathlib.Core.Path.{_≡_, sym, _∙_}
 use Prim.Native.Nat.{_≤_, _-_}
 use native.Mathlib.Omega.{arith}
 use lib.ListN.{length, length-map}
-use Rattle.enforcement.specs.Deciding.{chosen, context, Planned}
-use Rattle.enforcement.proofs.Choosing.{planned-told}
-use Rattle.enforcement.proofs.Judgement.{firstRules}
-use Rattle.enforcement.proofs.Planning.{planned-none, planned-more, planned-small}
+use Rattle.selection.specs.Choices.{chosen}
+use Rattle.enforcement.specs.Deciding.{context, Planned}
+use Rattle.selection.proofs.Judgement.{firstRules}
+use Rattle.enforcement.proofs.Planning.{planned-none, planned-more, planned-small, planned-told}
 use borrow.Author.Needs.{needs}
 use Rattle.enforcement.proofs.events.plan_of.Statement.{statement}
 use Rattle.enforcement.proofs.events.plan_of.Tie as tie

@@ -13,7 +13,10 @@ ended-requires : tie.Need-ended-requires
 ended-requires c κs = search needs
 
 returns : tie.Need-returns
-returns c = λ assigned granted history. event-left _ _ (stateFrom (c .before .before .before .before .before .before .args .time) assigned granted (c .before .before .before .before .before .before .args .sessions) (c .before .before .before .before .before .before .args .active .now) history) (c .before .before .before .before .before .before .args .action) (c .before .before .before .before .end-roles .result) (c .ended .result) (c .before .before .before .before .end-roles .ensures) (c .ended .ensures)
+returns c = λ assigned granted history.
+    let start = c .before .before .before .before in
+    let left = c .before .before .end-roles in
+    event-left _ _ (stateFrom (start .args .time) assigned granted (start .args .sessions) (start .args .active .now) history) (start .args .action) (left .result) (c .ended .result) (left .ensures) (c .ended .ensures)
 
 pub after-event-spec : {M : Type 1} → statement M
 after-event-spec = tie.close (tie.spec end-roles-requires ended-requires returns)

@@ -1,8 +1,8 @@
 -- `enforcement::kinds::open_session` meets its contract.
 -- Assumes nothing.
 use mathlib.Core.Path.{refl, sym, _∙_}
+use Rattle.selection.specs.Selection.{selects}
 use Rattle.enforcement.specs.Steps.{check, target}
-use Rattle.enforcement.specs.Selection.{selects}
 use Rattle.enforcement.proofs.Requests.{decide-refused, decide-request, request-free}
 use Rattle.enforcement.proofs.Answering.{kept-next, kept-session}
 use borrow.Author.Needs.{needs}

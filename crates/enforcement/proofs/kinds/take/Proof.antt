@@ -1,8 +1,8 @@
 -- `enforcement::kinds::take` meets its contract.
 -- Assumes nothing.
 use mathlib.Core.Path.{refl, sym, _∙_}
+use Rattle.selection.specs.Selection.{selects}
 use Rattle.enforcement.specs.Steps.{check, target}
-use Rattle.enforcement.specs.Selection.{selects}
 use Rattle.enforcement.proofs.Requests.{carries-word, decide-refused, decide-request, not-told, request-free}
 use borrow.Author.Needs.{needs}
 use Rattle.enforcement.proofs.kinds.take.Statement.{statement}

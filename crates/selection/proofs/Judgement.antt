@@ -1,0 +1,141 @@
+-- The judgement of a list of rules, one rule after the other.
+-- Assumes nothing.
+use mathlib.Core.Path.{_≡_, refl, sym, ap, ap₂, _∙_, fun-ext}
+use mathlib.Core.Bool.{Bool, true, false, not, cond, _||_}
+use mathlib.Core.List.{List, [], _∷_, map}
+use mathlib.Core.Logic.{_⊎_, inl, inr}
+use Prim.Native.Nat.{ℕ, zero, suc, _+_, _≤_, _<_}
+use native.Mathlib.Nat.{add-suc, suc-add, add-zero, add-comm}
+use native.Mathlib.Numerals.{add-one}
+use native.Mathlib.Omega.{arith}
+use lib.ListN.{length, take, getD}
+use lib.Seq.{take-all}
+use Rattle.sets.specs.Sets.{oneIf}
+use Rattle.rules.specs.Acceptance.{ruleOf}
+use Rattle.rules.specs.Families.{View, holds}
+use Rattle.rules.specs.declared.families.Rule.{Rule}
+use Rattle.rules.specs.declared.lists.Slot.{Slot}
+use Rattle.selection.specs.Lowest.{Lowest, unbroken, broken, lowest}
+use Rattle.selection.specs.Selection.{selects, selectedNumber}
+use Rattle.selection.specs.Choices.{chosen}
+use Rattle.selection.specs.declared.actions.Action.{Action}
+use Rattle.selection.specs.declared.selection.Choice.{Choice}
+use Rattle.selection.specs.Judging.{foundOf, judgedOf, orFound, visited}
+use Rattle.selection.specs.declared.judging.Found.{Found}
+use Rattle.selection.specs.declared.judging.Found.the-variants as found
+use Rattle.selection.specs.declared.judging.Judged.{Judged}
+
+-- the rules of the first n slots
+abbrev pub firstRules : ℕ → List Slot → List Rule
+firstRules n slots = map ruleOf (take n slots)
+
+-- a length past the last slot takes no more rules than there are slots
+pub rules-bounded : (slots : List Slot) (n m : ℕ) → length slots ≡ 128 → (n ≡ m) ⊎ ((n ≡ 128) × (128 < m)) → firstRules n slots ≡ firstRules m slots
+rules-bounded slots n m long (inl e) = rw e
+rules-bounded slots n m long (inr past) = ap (map ruleOf) (take-all n slots (omega (arith, past .0)) ∙ sym (take-all m slots (omega (arith, past .1))))
+
+-- ---- one slot more
+
+abbrev orLowest : Lowest → Bool → ℕ → Lowest
+orLowest unbroken holds n = cond holds unbroken (broken n)
+orLowest (broken m) holds n = broken m
+
+module _ (test : Rule → Bool) where
+  lowest-more : (slots : List Slot) (k n : ℕ) (filler : Slot) → n < length slots → lowest test k (firstRules (suc n) slots) ≡ orLowest (lowest test k (firstRules n slots)) (test (ruleOf (getD slots n filler))) (k + n)
+  unfolding lowest
+  lowest-more [] k n filler l = absurd (omega arith)
+  lowest-more (slot ∷ slots) k zero filler l = rw (add-zero k)
+  lowest-more (slot ∷ slots) k (suc n) filler l = go (test (slot .rule)) (lowest-more slots (suc k) n filler (omega arith))
+    where
+      go : (b : Bool) → lowest test (suc k) (firstRules (suc n) slots) ≡ orLowest (lowest test (suc k) (firstRules n slots)) (test (ruleOf (getD slots n filler))) (suc k + n) →
+          cond b (lowest test (suc k) (firstRules (suc n) slots)) (broken k) ≡ orLowest (cond b (lowest test (suc k) (firstRules n slots)) (broken k)) (test (ruleOf (getD slots n filler))) (k + suc n)
+      go true h = h ∙ ap (orLowest (lowest test (suc k) (firstRules n slots)) (test (ruleOf (getD slots n filler)))) (suc-add k n ∙ sym (add-suc k n))
+      go false h = refl
+
+  pub number-more : (slots : List Slot) (n : ℕ) (filler : Slot) → n < length slots → selectedNumber test (firstRules (suc n) slots) ≡ selectedNumber test (firstRules n slots) + oneIf (test (ruleOf (getD slots n filler)))
+  unfolding selectedNumber
+  number-more [] n filler l = absurd (omega arith)
+  number-more (slot ∷ slots) zero filler l = omega arith
+  number-more (slot ∷ slots) (suc n) filler l = let h = number-more slots n filler (omega arith) in omega arith
+
+pub number-le : (test : Rule → Bool) (slots : List Slot) (n : ℕ) → n ≤ length slots → selectedNumber test (firstRules n slots) ≤ n
+unfolding selectedNumber
+number-le test [] zero l = omega arith
+number-le test [] (suc n) l = absurd (omega arith)
+number-le test (slot ∷ slots) zero l = omega arith
+number-le test (slot ∷ slots) (suc n) l = at-most (test (slot .rule)) (number-le test slots n (omega arith))
+  where
+    at-most : (b : Bool) → selectedNumber test (firstRules n slots) ≤ n → oneIf b + selectedNumber test (firstRules n slots) ≤ suc n
+    at-most true h = omega arith
+    at-most false h = omega arith
+
+-- ---- the loop's turns
+
+abbrev judgement : Found → ℕ → Judged
+judgement lowestFound number = record { broken = lowestFound; selected = number }
+
+found-or : (low : Lowest) (holds : Bool) (n : ℕ) → orFound (foundOf low) holds n ≡ foundOf (orLowest low holds n)
+found-or unbroken true n = refl
+found-or unbroken false n = refl
+found-or (broken m) holds n = refl
+
+-- a rule that is not selected changes nothing
+unless : (low : Lowest) (n : ℕ) → orLowest low true n ≡ low
+unless unbroken n = refl
+unless (broken m) n = refl
+
+module _ (selected : Rule → Bool) (v : View) (slots : List Slot) where
+  pub judged-none : record { broken = found.Nothing; selected = 0 } ≡ judgedOf selected v (firstRules 0 slots)
+  unfolding judgedOf lowest selectedNumber
+  judged-none = refl
+
+  pub judged-more : (n : ℕ) (filler : Slot) → n < length slots →
+      let rule = ruleOf (getD slots n filler) in
+      visited (selected rule) (holds rule v) (judgedOf selected v (firstRules n slots)) (n + 1) ≡ judgedOf selected v (firstRules (n + 1) slots)
+  unfolding judgedOf visited
+  judged-more n filler l =
+      by-selected (selected (ruleOf (getD slots n filler)))
+      (lowest-more (λ rule. not (selected rule) || holds rule v) slots 1 n filler l) (number-more selected slots n filler l)
+    where
+      by-selected : (b : Bool) →
+          lowest (λ rule. not (selected rule) || holds rule v) 1 (firstRules (suc n) slots) ≡ orLowest (lowest (λ rule. not (selected rule) || holds rule v) 1 (firstRules n slots)) (not b || holds (ruleOf (getD slots n filler)) v) (1 + n) →
+          selectedNumber selected (firstRules (suc n) slots) ≡ selectedNumber selected (firstRules n slots) + oneIf b →
+          visited b (holds (ruleOf (getD slots n filler)) v) (judgedOf selected v (firstRules n slots)) (n + 1) ≡ judgedOf selected v (firstRules (n + 1) slots)
+      by-selected true low number =
+          ap₂ judgement
+          (found-or (lowest (λ rule. not (selected rule) || holds rule v) 1 (firstRules n slots)) (holds (ruleOf (getD slots n filler)) v) (n + 1)
+          ∙ ap (λ (k : ℕ). foundOf (orLowest (lowest (λ rule. not (selected rule) || holds rule v) 1 (firstRules n slots)) (holds (ruleOf (getD slots n filler)) v) k)) (add-comm n 1)
+          ∙ ap foundOf (sym low))
+          (sym number)
+          ∙ ap (λ (k : ℕ). judgedOf selected v (firstRules k slots)) (sym (add-one n))
+      by-selected false low number =
+          ap₂ judgement (ap foundOf (sym (low ∙ unless (lowest (λ rule. not (selected rule) || holds rule v) 1 (firstRules n slots)) (1 + n)))) (sym (number ∙ add-zero (selectedNumber selected (firstRules n slots))))
+          ∙ ap (λ (k : ℕ). judgedOf selected v (firstRules k slots)) (sym (add-one n))
+
+  pub judged-small : (judged : Judged) (n : ℕ) → n ≤ length slots → judged ≡ judgedOf selected v (firstRules n slots) → judged .selected ≤ n
+  unfolding judgedOf
+  judged-small judged n l e = rw e (number-le selected slots n l)
+
+-- ---- one rule
+
+module _ (isSelected holds : Bool) (judged : Judged) (number : ℕ) where
+  pub visited-unselected : isSelected ≡ false → judged ≡ visited isSelected holds judged number
+  unfolding visited
+  visited-unselected e = rw e
+
+  pub visited-after : (n : ℕ) → isSelected ≡ true → judged .broken ≡ found.Rule n → record { broken = judged .broken; selected = judged .selected + 1 } ≡ visited isSelected holds judged number
+  unfolding visited
+  visited-after n e f = rw (e, f)
+
+  pub visited-kept : isSelected ≡ true → judged .broken ≡ found.Nothing → holds ≡ true → record { broken = found.Nothing; selected = judged .selected + 1 } ≡ visited isSelected holds judged number
+  unfolding visited
+  visited-kept e f h = rw (e, f, h)
+
+  pub visited-broken : isSelected ≡ true → judged .broken ≡ found.Nothing → holds ≡ false → record { broken = found.Rule number; selected = judged .selected + 1 } ≡ visited isSelected holds judged number
+  unfolding visited
+  visited-broken e f h = rw (e, f, h)
+
+-- ---- what is judged by a choice is so by the table
+
+pub judged-told : (choice : Choice) (action : Action) → ((k : Rule) → chosen choice k ≡ selects action k) → (rules : List Rule) (v : View) (judged : Judged) → judged ≡ judgedOf (chosen choice) v rules → judged ≡ judgedOf (selects action) v rules
+judged-told choice action same rules v judged e = e ∙ ap (λ (selected : Rule → Bool). judgedOf selected v rules) (fun-ext same)

@@ -1,0 +1,4 @@
+pub mod Choosing
+pub mod Judgement
+pub mod Parts
+pub mod Settling
