@@ -9,7 +9,9 @@ from typing import NamedTuple
 import report
 import sample_texts
 
-ROUNDS = 9
+# So many rounds, or fewer where they take longer than these seconds; never fewer than three.
+MOST_ROUNDS = 15
+SECONDS = 80
 BATCH = 256
 # A multiple of 128 below 4096: how crates/enforcement_speed takes it.
 BATCHES = 1024
@@ -23,10 +25,11 @@ class Command(NamedTuple):
     path: str
 
 
+# Two commands, or the seconds that they took.
 class Side(NamedTuple):
     # Everything but the work itself: its time is taken off.
-    idle: Command
-    full: Command
+    idle: object
+    full: object
 
 
 class Work(NamedTuple):
@@ -40,22 +43,36 @@ class Work(NamedTuple):
 def main():
     if sys.argv[1:] not in ([], ['--write']):
         sys.exit('bash bench/run [--write]')
+    if sys.argv[1:]:
+        report.read_page()
     for program in OURS.values():
         if not os.path.exists(program):
             sys.exit(f'{program} is missing: rt check {os.path.basename(program)}')
     if os.getloadavg()[0] > 0.5:
         print(f'other work is running (load {os.getloadavg()[0]:.1f}): the numbers will be too low', file=sys.stderr)
-    lists, texts = list_works(), text_works()
-    seconds, is_alike = measured(lists + texts)
-    found = report.Found(
-        rounds=ROUNDS, batch=BATCH, list_names=[work.name for work in lists], text_names=[work.name for work in texts],
-        list_steps=BATCHES * BATCH, text_times=[work.count for work in texts], input_steps=sample_texts.full_input()[1],
-        seconds=seconds, is_alike=is_alike, memory={work.name: peaks(work) for work in [lists[3]] + [texts[0], texts[2]]})
+    found = everything()
     print(report.printed(found))
-    if not all(is_alike.values()):
+    if not all(found.is_alike.values()):
         sys.exit('CHECKSUMS DIFFER')
+    print('\nall checksums agree')
     if sys.argv[1:]:
         report.write(found)
+
+
+def everything():
+    lists, texts = list_works(), text_works()
+    rounds, seconds, is_alike = measured(lists + texts)
+    return report.Found(
+        rounds=rounds, processor=processor(), compiler=os.environ['RUST_VERSION'], batch=BATCH, list_steps=BATCHES * BATCH,
+        list_names=[work.name for work in lists], text_names=[work.name for work in texts], text_times=[work.count for work in texts],
+        input_steps=sample_texts.full_input()[1], seconds=seconds, is_alike=is_alike,
+        memory={work.name: peaks(work) for work in (lists[3], texts[0], texts[2])})
+
+
+def processor():
+    with open('/proc/cpuinfo') as file:
+        names = [line.split(':')[1].strip() for line in file if line.startswith('model name')]
+    return names[0] if names else 'an unnamed processor'
 
 
 # ---- the works
@@ -78,7 +95,7 @@ def text_works():
     # Without its last line feed all of the input is read, and nothing runs.
     return [
         text_work(f'`respond`, a full input ({full})', 'steps', steps, 32),
-        text_work('the same only read, for its last line is bad', 'steps', steps[:-1] + ' ', 63),
+        text_work('`respond`, only reading (the same input with a bad last line)', 'steps', steps[:-1] + ' ', 63),
         text_work(f'`read_state` and `write_state`, a full saved state ({line_count:,} lines, {len(saved):,} bytes)', 'saved', saved, 8)]
 
 
@@ -100,23 +117,30 @@ def stored(name, text):
 # ---- times
 
 def measured(works):
-    """Of each work and side the seconds for one step or text; of each work whether all its sides printed the same."""
+    """How many rounds there were; of each work and side the seconds for one step or text; of each work whether all sides printed the same."""
     best, printed = {}, {work.name: set() for work in works}
+    rounds, start = 0, time.monotonic()
     # All works in each round, so that a disturbance of some seconds does not meet all runs of one.
-    for _ in range(ROUNDS):
+    while rounds < 3 or rounds < MOST_ROUNDS and time.monotonic() - start < SECONDS:
         for work in works:
             for side, commands in work.sides.items():
-                for part, command in zip(('idle', 'full'), commands):
-                    output, seconds = timed(command)
-                    key = work.name, side, part
-                    best[key] = min(seconds, best.get(key, seconds))
-                printed[work.name].add(output)
+                printed[work.name].add(improved(best, (work.name, side), commands))
+        rounds += 1
     seconds = {work.name: {side: net(best, work, side) for side in work.sides} for work in works}
-    return seconds, {name: len(outputs) == 1 for name, outputs in printed.items()}
+    return rounds, seconds, {name: len(outputs) == 1 for name, outputs in printed.items()}
+
+
+def improved(best, key, commands):
+    """One run more; what it prints with the work done."""
+    _, idle = timed(commands.idle)
+    output, full = timed(commands.full)
+    old = best.get(key, Side(idle, full))
+    best[key] = Side(min(idle, old.idle), min(full, old.full))
+    return output
 
 
 def net(best, work, side):
-    taken = best[work.name, side, 'full'] - best[work.name, side, 'idle']
+    taken = best[work.name, side].full - best[work.name, side].idle
     if taken <= 0:
         sys.exit(f'{work.name}: too short to be measured')
     return taken / work.count
@@ -138,7 +162,8 @@ def timed(command):
 # ---- memory
 
 def peaks(work):
-    return {side: peak(commands.full) for side, commands in work.sides.items()}
+    # The kernel counts some pages late.
+    return {side: max(peak(commands.full) for _ in range(3)) for side, commands in work.sides.items()}
 
 
 def peak(command):

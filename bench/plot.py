@@ -17,13 +17,14 @@ def drawn(rules, speeds):
         f'<rect width="{WIDTH}" height="{HEIGHT}" fill="white"/>',
         label(LEFT, 26, 'Mixed list of steps: million steps a second against rules', 'start', size=15)]
     lines += axes(rules, scale)
-    for side, values in speeds.items():
-        lines += curve(rules, values, scale, *SIDES[side])
+    curves = [curve(rules, values, scale, *SIDES[side]) for side, values in speeds.items()]
+    # Numbers stand over all lines.
+    lines += [drawing for drawings, _ in curves for drawing in drawings] + [number for _, numbers in curves for number in numbers]
     return '\n'.join(lines + ['</svg>', ''])
 
 
 class Scale:
-    """Rules go evenly to the right, speeds up by powers of ten."""
+    """Rules go to the right by their square roots, so that the short lists stand apart; speeds go up by powers of ten."""
 
     def __init__(self, rules, speeds):
         self.most = max(rules)
@@ -31,7 +32,7 @@ class Scale:
         self.high = math.log10(max(speeds) * 1.4)
 
     def x(self, rules):
-        return LEFT + 20 + (RIGHT - LEFT - 40) * rules / self.most
+        return LEFT + 20 + (RIGHT - LEFT - 40) * math.sqrt(rules / self.most)
 
     def y(self, speed):
         return BOTTOM - (BOTTOM - TOP) * (math.log10(speed) - self.low) / (self.high - self.low)
@@ -51,22 +52,24 @@ def axes(rules, scale):
         x = scale.x(count)
         lines.append(f'<path d="M{x:.1f} {BOTTOM}v6" stroke="#333"/>')
         lines.append(label(x, BOTTOM + 22, str(count), 'middle'))
-    lines.append(label((LEFT + RIGHT) / 2, BOTTOM + 46, 'rules in the list', 'middle'))
+    lines.append(label((LEFT + RIGHT) / 2, BOTTOM + 46, 'rules in the list (square root scale)', 'middle'))
     middle = (TOP + BOTTOM) / 2
-    lines.append(f'<g transform="rotate(-90 28 {middle})">' + label(28, middle, 'million steps a second (logarithmic)', 'middle') + '</g>')
+    lines.append(f'<g transform="rotate(-90 28 {middle})">' + label(28, middle, 'million steps a second (logarithmic scale)', 'middle') + '</g>')
     return lines
 
 
 def curve(rules, values, scale, name, colour, offset):
+    """The line with its points, and the labels."""
     points = [(scale.x(count), scale.y(value)) for count, value in zip(rules, values)]
     way = ' '.join(f'{x:.1f},{y:.1f}' for x, y in points)
-    lines = [f'<polyline points="{way}" fill="none" stroke="{colour}" stroke-width="2"/>']
-    for (x, y), value in zip(points, values):
-        lines.append(f'<circle cx="{x:.1f}" cy="{y:.1f}" r="4" fill="{colour}"/>')
-        lines.append(label(x, y + offset, f'{value / 1e6:.3g}', 'middle', colour))
-    x, y = points[-1]
-    return lines + [label(x + 26, y + 4, name, 'start', colour)]
+    drawings = [f'<polyline points="{way}" fill="none" stroke="{colour}" stroke-width="2"/>']
+    drawings += [f'<circle cx="{x:.1f}" cy="{y:.1f}" r="4" fill="{colour}"/>' for x, y in points]
+    labels = [label(x, y + offset, f'{value / 1e6:.3g}', 'middle', colour) for (x, y), value in zip(points, values)]
+    last_x, last_y = points[-1]
+    return drawings, labels + [label(last_x + 26, last_y + 4, name, 'start', colour)]
 
 
 def label(x, y, text, anchor, colour='#333', size=13):
-    return f'<text x="{x:.1f}" y="{y:.1f}" text-anchor="{anchor}" fill="{colour}" font-size="{size}">{text}</text>'
+    # A white rim keeps it readable over a line.
+    rim = 'stroke="white" stroke-width="4" paint-order="stroke"'
+    return f'<text x="{x:.1f}" y="{y:.1f}" text-anchor="{anchor}" fill="{colour}" font-size="{size}" {rim}>{text}</text>'

@@ -1,5 +1,7 @@
 """What was measured, as the table and the sentences of docs/SPEED.md."""
+import math
 import re
+import textwrap
 from typing import NamedTuple
 
 import plot
@@ -18,6 +20,8 @@ BARS = {MIXED[3]: 2.5, HEAVY: 1.6}
 
 class Found(NamedTuple):
     rounds: int
+    processor: str
+    compiler: str
     # Steps in a batch, and in a list.
     batch: int
     list_steps: int
@@ -41,13 +45,9 @@ def printed(found):
 
 
 def write(found):
-    with open(PAGE) as file:
-        page = file.read()
+    page = read_page()
     for name, text in parts(found).items():
-        pattern = f'(<!-- {name}: written by bench/run -->\n).*?(\n<!-- end -->)'
-        page, count = re.subn(pattern, lambda match: match[1] + text + match[2], page, flags=re.DOTALL)
-        if count != 1:
-            raise SystemExit(f'{PAGE} has no part {name}')
+        page = re.sub(place(name), lambda match: match[1] + text + '\n' + match[2], page)
     with open(PAGE, 'w') as file:
         file.write(page)
     speeds = {side: [1 / found.seconds[name][side] for name in MIXED] for side in ('selecting', 'ours', 'plain')}
@@ -55,21 +55,48 @@ def write(found):
         file.write(plot.drawn(RULE_COUNTS, speeds))
 
 
-# Each has its place in the page.
+def read_page():
+    """The page, which has a place for each part."""
+    with open(PAGE) as file:
+        page = file.read()
+    for name in PARTS:
+        if len(re.findall(place(name), page)) != 1:
+            raise SystemExit(f'{PAGE} has no place for {name}')
+    return page
+
+
+# The mark before a part and the one after it.
+def place(name):
+    return f'(?s)(<!-- {name}: written by bench/run -->\n).*?(<!-- end -->)'
+
+
+# Without what stands in brackets.
+def short(name):
+    return name.split(' (')[0]
+
+
+def paragraph(text):
+    return textwrap.fill(text, 150, break_long_words=False, break_on_hyphens=False)
+
+
 def parts(found):
-    return {'table': measured(found) + '\n\n' + table(found), 'bars': bars(found), 'steps': step_times(found), 'texts': text_times(found),
-            'behind': behind(found)}
+    return {name: made(found) for name, made in PARTS.items()}
 
 
-def measured(found):
+def table_part(found):
+    return '\n\n'.join([paragraph(buffers(found)), paragraph(runs(found)), table(found)])
+
+
+def buffers(found):
+    return (f'Buffers are treated alike on each side. Steps and answers are cleared before each batch of {found.batch} steps. The space for what a '
+            'text gives is cleared once, before any time is taken, and then written over without clearing. No cache is cleared.')
+
+
+def runs(found):
     times = ', '.join(map(str, found.text_times[:-1])) + f' and {found.text_times[-1]}'
-    return f'''\
-Buffers are treated alike on each side. Steps and answers are cleared before each batch of {found.batch} steps. The space for what a text gives is \
-cleared once, before any time is taken, and then written over without clearing. No cache is cleared.
-
-Each program was run {found.rounds} times, all in turn, {found.list_steps:,} steps a run, the texts {times} times a run. Shown is the best run by \
-processor time, less the best run that only makes the list or only reads its input. Memory is the most that the whole program held (VmHWM). Rust is \
-built with `-C opt-level=3`.'''
+    return (f'Each program was run {found.rounds} times, all in turn, {found.list_steps:,} steps a run, the texts {times} times a run. Shown is the '
+            'best run by processor time, less the best run that only makes the list or only reads its input. Memory is the most that the whole '
+            f'program held (VmHWM). Processor: {found.processor}. Rust: {found.compiler}, `-C opt-level=3`.')
 
 
 def table(found):
@@ -77,8 +104,8 @@ def table(found):
     rows += [row(found, name, name, 'steps a second', lambda seconds: 1 / seconds) for name in found.list_names]
     rows += [row(found, name, name, 'ms', lambda seconds: seconds * 1e3) for name in found.text_names]
     for name, sides in found.memory.items():
-        label = 'peak memory, ' + re.sub(r' \(.*', '', name)
-        rows.append([label, 'KB'] + costs(sides, lambda held: held / 1024) + [''])
+        label = 'peak memory, ' + short(name)
+        rows.append([label, 'MB'] + costs(sides, lambda held: held / 1e6, digits=2) + [''])
     widths = [max(len(row[i]) for row in rows) for i in range(len(rows[0]))]
     rows.insert(1, ['-' * width for width in widths[:2]] + ['-' * (width - 1) + ':' for width in widths[2:-1]] + ['-' * widths[-1]])
     lines = []
@@ -93,15 +120,16 @@ def row(found, name, label, unit, shown):
 
 
 # What each side costs, as it is shown, and the ratios of the costs.
-def costs(sides, shown):
-    values = [rounded(shown(sides[side])) if side in sides else '' for side in ('ours', 'selecting', 'plain')]
-    return values + [f'{sides["ours"] / sides["selecting"]:.2f}', f'{sides["plain"] / sides["ours"]:.2f}' if 'plain' in sides else '']
+def costs(sides, shown, digits=3):
+    values = [rounded(shown(sides[side]), digits) if side in sides else '' for side in ('ours', 'selecting', 'plain')]
+    pairs = [('ours', 'selecting'), ('plain', 'ours')]
+    return values + [f'{sides[first] / sides[second]:.{digits - 1}f}' if first in sides else '' for first, second in pairs]
 
 
-# Three digits count.
-def rounded(value):
-    digits = 3 - len(str(int(value))) if value >= 1 else 3
-    return f'{round(value, digits):,.{max(digits, 0)}f}'
+# So many digits count.
+def rounded(value, digits=3):
+    places = digits - 1 - math.floor(math.log10(value))
+    return f'{round(value, places):,.{max(places, 0)}f}'
 
 
 def bars(found):
@@ -125,28 +153,31 @@ def ratio_of(found, name, first, second):
 
 def step_times(found):
     none, most = [{side: found.seconds[name][side] * 1e9 for side in ('ours', 'selecting')} for name in (MIXED[0], MIXED[3])]
-    return f'''\
-A mixed step takes us {none['ours']:.0f} ns without rules and {most['ours']:.0f} ns with {RULE_COUNTS[3]}; the selecting Rust gate takes \
-{none['selecting']:.0f} and {most['selecting']:.0f} ns. So we pay {none['ours'] - none['selecting']:.0f} ns more at a step without rules, and \
-{most['ours'] - most['selecting']:.0f} ns more with {RULE_COUNTS[3]}.'''
+    return paragraph(
+        f'A mixed step takes us {none["ours"]:.0f} ns without rules and {most["ours"]:.0f} ns with {RULE_COUNTS[3]}; the selecting Rust gate takes '
+        f'{none["selecting"]:.0f} and {most["selecting"]:.0f} ns. So we pay {none["ours"] - none["selecting"]:.0f} ns more at a step without rules, and '
+        f'{most["ours"] - most["selecting"]:.0f} ns more with {RULE_COUNTS[3]}.')
 
 
 def text_times(found):
     whole, once, saved = [found.seconds[name]['ours'] * 1e3 for name in found.text_names]
     steps = found.input_steps * found.seconds[MIXED[3]]['ours'] * 1e3
-    rest = whole - 2 * once - steps
-    return f'''\
-A full input takes {rounded(whole)} ms. To read it once takes {rounded(once)} ms, and it is read twice; {found.input_steps:,} steps of the mixed list take \
-{rounded(steps)} ms through `run`. The other {rounded(rest)} ms go into what `respond` does beyond that at each step. A full saved state takes \
-{rounded(saved)} ms.'''
+    return paragraph(
+        f'A full input takes {rounded(whole)} ms. To read it once takes {rounded(once)} ms, and its steps are read twice; {found.input_steps:,} steps of the '
+        f'mixed list take {rounded(steps)} ms through `run`. {whole - 2 * once - steps:.1f} ms are left for what `respond` does beyond that. A full saved state '
+        f'takes {rounded(saved)} ms.')
 
 
 def behind(found):
     slower = [(name, ratio_of(found, name, 'ours', 'selecting')) for name in found.list_names + found.text_names]
     lines = ["Our time to Rust's, selecting, the largest first:", '']
     for name, ratio in sorted(slower, key=lambda pair: -pair[1]):
-        lines.append(f'- {ratio:.2f}: {re.sub(r" [(].*", "", name)}')
+        lines.append(f'- {ratio:.2f}: {short(name)}')
     quicker = [str(count) for count, name in zip(RULE_COUNTS, MIXED) if ratio_of(found, name, 'plain', 'ours') < 1]
     lines += ['', f'The plain Rust gate is quicker than ours with this many rules: {", ".join(quicker)}.' if quicker
               else 'The plain Rust gate is nowhere quicker than ours.']
     return '\n'.join(lines)
+
+
+# Each has its place in the page.
+PARTS = {'table': table_part, 'bars': bars, 'steps': step_times, 'texts': text_times, 'behind': behind}
