@@ -48,8 +48,9 @@ def main():
     for program in OURS.values():
         if not os.path.exists(program):
             sys.exit(f'{program} is missing: rt check {os.path.basename(program)}')
-    if os.getloadavg()[0] > 0.5:
-        print(f'other work is running (load {os.getloadavg()[0]:.1f}): the numbers will be too low', file=sys.stderr)
+    load = os.getloadavg()[0]
+    if load > 0.5:
+        print(f'other work is running (load {load:.1f}): the numbers are not those of an idle machine', file=sys.stderr)
     found = everything()
     print(report.printed(found))
     if not all(found.is_alike.values()):

@@ -410,50 +410,63 @@ fn respond(input: &[u8], out: &mut Vec<u8>) {
 // A line's rank among all that can be, or its refusal: 10, 11, then 15, then 16. A good line goes into the state.
 fn saved_line(text: &mut Text, next: usize, state: &mut State) -> Result<usize, u64> {
     let (form, values) = saved_form(text).ok_or(10u64)?;
-    let [a, b, c] = values;
-    let in_range = match form {
+    if !is_saved_in_range(form, values) {
+        return Err(11);
+    }
+    let rank = saved_rank(form, values.map(|value| value as usize));
+    if if next == 0 { rank != 0 } else { rank < next } {
+        return Err(15);
+    }
+    put_saved(form, values, state).ok_or(16u64)?;
+    Ok(rank)
+}
+
+fn is_saved_in_range(form: u64, [a, b, c]: [i64; 3]) -> bool {
+    match form {
         0 => within(a, 0, LAST_TIME as i64),
         1 => within(a, 0, 63) && within(b, 0, 31),
         2 | 5 => within(a, 0, 31) && within(b, 0, 31),
         3 => within(a, 0, 31) && within(b, 0, 63),
         4 => within(a, 0, 31) && on_grid(b) && on_grid(c),
         _ => within(a, 0, 31) && within(b, 0, 31) && within(c, 0, 63),
-    };
-    if !in_range {
-        return Err(11);
     }
-    let (i, j, k) = (a as usize, b as usize, c as usize);
-    let rank = match form {
+}
+
+// Of each session one line opens it, one places it, and 32 are for its roles.
+fn saved_rank(form: u64, [a, b, c]: [usize; 3]) -> usize {
+    match form {
         0 => 0,
-        1 => 1 + i * 32 + j,
-        2 => 2049 + i * 32 + j,
-        3 => 3073 + i * 34,
-        4 => 3073 + i * 34 + 1,
-        5 => 3073 + i * 34 + 2 + j,
-        _ => 4161 + (i * 32 + j) * 64 + k,
-    };
-    if if next == 0 { rank != 0 } else { rank < next } {
-        return Err(15);
+        1 => 1 + a * 32 + b,
+        2 => 2049 + a * 32 + b,
+        3 => 3073 + a * 34,
+        4 => 3073 + a * 34 + 1,
+        5 => 3073 + a * 34 + 2 + b,
+        _ => 4161 + (a * 32 + b) * 64 + c,
     }
+}
+
+// None where the line does not rest on those before it.
+fn put_saved(form: u64, [a, b, c]: [i64; 3], state: &mut State) -> Option<()> {
+    let (i, j, k) = (a as usize, b as usize, c as usize);
     match form {
         0 => state.time = a as u64,
         1 => state.assigned[i] |= 1 << j,
         2 => state.granted[i] |= 1 << j,
         3 => state.sessions[i] = Session { user: Some(j), ..Session::default() },
         4 => {
-            state.sessions[i].user.ok_or(16u64)?;
+            state.sessions[i].user?;
             state.sessions[i].position = Some((b, c));
         }
         5 => {
-            let user = state.sessions[i].user.ok_or(16u64)?;
+            let user = state.sessions[i].user?;
             if !has(state.assigned[user], j) {
-                return Err(16);
+                return None;
             }
             state.sessions[i].active |= 1 << j;
         }
         _ => state.did[i][j] |= 1 << k,
     }
-    Ok(rank)
+    Some(())
 }
 
 fn saved_form(text: &mut Text) -> Option<(u64, [i64; 3])> {
