@@ -27,7 +27,7 @@ class Command(NamedTuple):
 
 # Two commands, or the seconds that they took.
 class Side(NamedTuple):
-    # Everything but the work itself: its time is taken off.
+    # Everything but the work that is measured: its time is taken off.
     idle: object
     full: object
 
@@ -96,15 +96,17 @@ def text_works():
     # Without its last line feed all of the input is read, and nothing runs.
     return [
         text_work(f'`respond`, a full input ({full})', 'steps', steps, 32),
-        text_work('`respond`, only reading (the same input with a bad last line)', 'steps', steps[:-1] + ' ', 63),
+        text_work('`respond`, only reading (the same input with a bad last line)', 'steps', steps[:-1] + ' ', 62),
         text_work(f'`read_state` and `write_state`, a full saved state ({line_count:,} lines, {len(saved):,} bytes)', 'saved', saved, 8)]
 
 
+# Once, and so many times more: reading the input and summing the output are then taken off. crates/text_speed takes up to 63 times.
 def text_work(name, kind, text, times):
     letter = {'steps': 'r', 'saved': 's'}[kind]
     path = stored(f'{kind}_{times}.text', text)
-    ours = [Command([OURS['texts']], stored(f'{kind}_{times}_{count}', letter + chr(64 + count) + text)) for count in (0, times)]
-    rust = [Command([f'{FOLDER}/texts', kind, str(count)], path) for count in (0, times)]
+    counts = 1, 1 + times
+    ours = [Command([OURS['texts']], stored(f'{kind}_{times}_{count}', letter + chr(64 + count) + text)) for count in counts]
+    rust = [Command([f'{FOLDER}/texts', kind, str(count)], path) for count in counts]
     return Work(name, times, {'ours': Side(*ours), 'selecting': Side(*rust)})
 
 

@@ -89,20 +89,20 @@ def table_part(found):
 
 def buffers(found):
     return (f'Buffers are treated alike on each side. Steps and answers are cleared before each batch of {found.batch} steps. The space for what a '
-            'text gives is cleared once, before any time is taken, and then written over without clearing. No cache is cleared.')
+            'text gives is cleared and written once before any time is taken, and then written over without clearing. No cache is cleared.')
 
 
 def runs(found):
     times = ', '.join(map(str, found.text_times[:-1])) + f' and {found.text_times[-1]}'
-    return (f'Each program was run {found.rounds} times, all in turn, {found.list_steps:,} steps a run, the texts {times} times a run. Shown is the '
-            'best run by processor time, less the best run that only makes the list or only reads its input. Memory is the most that the whole '
+    return (f'Each program was run {found.rounds} times, all in turn, {found.list_steps:,} steps a run, the texts {times} times. Shown is the '
+            'best run by processor time, less the best run that only makes the list or works through the text once. Memory is the most that the whole '
             f'program held (VmHWM). Processor: {found.processor}. Rust: {found.compiler}, `-C opt-level=3`.')
 
 
 def table(found):
     rows = [['work', 'unit', 'ours', 'Rust, selecting', 'Rust, plain', "ours to selecting's", "plain's to ours", 'checksums']]
-    rows += [row(found, name, name, 'steps a second', lambda seconds: 1 / seconds) for name in found.list_names]
-    rows += [row(found, name, name, 'ms', lambda seconds: seconds * 1e3) for name in found.text_names]
+    rows += [row(found, name, 'steps a second', lambda seconds: 1 / seconds) for name in found.list_names]
+    rows += [row(found, name, 'ms', lambda seconds: seconds * 1e3) for name in found.text_names]
     for name, sides in found.memory.items():
         label = 'peak memory, ' + short(name)
         rows.append([label, 'MB'] + costs(sides, lambda held: held / 1e6, digits=2) + [''])
@@ -115,8 +115,8 @@ def table(found):
     return '\n'.join(lines)
 
 
-def row(found, name, label, unit, shown):
-    return [label, unit] + costs(found.seconds[name], shown) + ['alike' if found.is_alike[name] else 'DIFFER']
+def row(found, name, unit, shown):
+    return [name, unit] + costs(found.seconds[name], shown) + ['alike' if found.is_alike[name] else 'DIFFER']
 
 
 # What each side costs, as it is shown, and the ratios of the costs.
