@@ -1,20 +1,51 @@
-// The texts of document 01 in Rust, to compare with: rules and steps read, run and answered; a saved state read under no rules and
-// written. The steps run on the selecting gate of gates.rs; no code is shared with crates/.
+// The texts of document 01 in Rust, to compare with: rules and steps read, run on the selecting gate of gate.rs and answered; a saved state
+// read under no rules and written. No code is shared with crates/.
 //
 //     texts steps|saved TIMES < text
 //
-// does it so often and prints a checksum of what was written and its length, as crates/text_speed does. A text is read once, and what is
-// written goes to a list that keeps its room from one time to the next.
-#[allow(dead_code)]
-#[path = "gates.rs"]
-mod gates;
+// does it so often and prints a checksum of what was written and its length, as crates/text_speed does.
+mod checksum;
+mod gate;
 
-use gates::{has, Rule, Session, Shape, State, Step, Term, LAST_TIME};
+use gate::{
+    has, on_grid, Rule, Session, Shape, State, Step, Term, Week, ACCESS, ACTIVATE, ASSIGN, CLOCK, CLOSE, DEACTIVATE, FINISH, GRANT, LAST_TIME, LOST,
+    MOVE, OPEN, TAKE, WITHDRAW,
+};
 use std::hint::black_box;
 use std::io::Read;
 use std::{env, process};
 
 const MOST_BYTES: usize = 65_536;
+const ROOM: usize = 1_048_576;
+
+fn main() {
+    let words: Vec<String> = env::args().collect();
+    let [_, kind, times] = &words[..] else {
+        println!("texts steps|saved TIMES < text");
+        process::exit(2);
+    };
+    let mut input = Vec::new();
+    std::io::stdin().read_to_end(&mut input).unwrap();
+    let mut out = cleared();
+    for _ in 0..times.parse().unwrap() {
+        if kind == "steps" {
+            respond(black_box(&input), &mut out);
+        } else {
+            let state = read_state(black_box(&input)).unwrap_or_else(|_| State::fresh());
+            write_state(black_box(&state), &mut out);
+        }
+        black_box(&out);
+    }
+    println!("{} {}", out.iter().fold(0, |sum, &byte| checksum::added(sum, byte as u64)), out.len());
+}
+
+// Room that is cleared once and then written over each time, as in crates/text_speed.
+fn cleared() -> Vec<u8> {
+    let mut out = Vec::with_capacity(ROOM);
+    out.resize(ROOM, 0);
+    black_box(&mut out).clear();
+    out
+}
 
 // ---- "One form a line, single spaces, line feed after each"
 
@@ -70,31 +101,25 @@ impl<'a> Text<'a> {
     }
 
     // Numbers after a space each.
-    fn numbers<const N: usize>(&mut self) -> Option<[i64; N]> {
+    fn spaced<const N: usize>(&mut self, read: impl Fn(&mut Self) -> Option<i64>) -> Option<[i64; N]> {
         let mut values = [0; N];
         for value in &mut values {
             self.literal(b" ")?;
-            *value = self.number()?;
+            *value = read(self)?;
         }
         Some(values)
+    }
+
+    fn numbers<const N: usize>(&mut self) -> Option<[i64; N]> {
+        self.spaced(Text::number)
     }
 
     fn signed_numbers<const N: usize>(&mut self) -> Option<[i64; N]> {
-        let mut values = [0; N];
-        for value in &mut values {
-            self.literal(b" ")?;
-            *value = self.signed()?;
-        }
-        Some(values)
+        self.spaced(Text::signed)
     }
 
     fn fixed_numbers<const N: usize>(&mut self, count: usize) -> Option<[i64; N]> {
-        let mut values = [0; N];
-        for value in &mut values {
-            self.literal(b" ")?;
-            *value = self.digits(count)?;
-        }
-        Some(values)
+        self.spaced(|text| text.digits(count))
     }
 }
 
@@ -174,18 +199,27 @@ fn pair(text: &mut Text, rule: fn(usize, usize) -> Rule) -> Option<Judged> {
 fn during(text: &mut Text) -> Option<Judged> {
     let [r] = text.numbers()?;
     text.literal(b" (")?;
-    // In range, and the term where 14 does not refuse it.
-    let (in_range, term) = match text.word() {
+    let (in_range, term) = term(text)?;
+    text.literal(b")")?;
+    if !(in_range && within(r, 0, 31)) {
+        return Some(Judged::OutOfRange);
+    }
+    Some(term.map_or(Judged::Late(14), |term| Judged::Rule(Rule::During(r as usize, term))))
+}
+
+// Whether its numbers are in range, and the term where 14 does not refuse it.
+fn term(text: &mut Text) -> Option<(bool, Option<Term>)> {
+    let read = match text.word() {
         b"dates" => {
             let [a, b] = text.fixed_numbers(8)?;
-            let term = day_of(a).zip(day_of(b)).filter(|(a, b)| a <= b).map(|(a, b)| Term::Dates(a, b));
-            (is_date(a) && is_date(b), term)
+            let days = day_of(a).zip(day_of(b)).filter(|(a, b)| a <= b);
+            (is_date(a) && is_date(b), days.map(|(a, b)| Term::Dates(a, b)))
         }
         b"week" => {
             let [a, b] = text.numbers()?;
             let [h, k] = text.fixed_numbers(4)?;
             let in_range = within(a, 1, 7) && within(b, 1, 7) && within(h, 0, 2359) && within(k, 1, 2400) && h % 100 < 60 && k % 100 < 60;
-            let week = gates::Week { first: a as u64, last: b as u64, start: h as u64, end: k as u64 };
+            let week = Week { first: a as u64, last: b as u64, start: h as u64, end: k as u64 };
             (in_range, if h == k { None } else { Some(Term::Week(week)) })
         }
         b"months" => {
@@ -203,11 +237,7 @@ fn during(text: &mut Text) -> Option<Judged> {
         }
         _ => return None,
     };
-    text.literal(b")")?;
-    if !(in_range && within(r, 0, 31)) {
-        return Some(Judged::OutOfRange);
-    }
-    Some(term.map_or(Judged::Late(14), |term| Judged::Rule(Rule::During(r as usize, term))))
+    Some(read)
 }
 
 // yyyymmdd of the years 2000 to 2099
@@ -217,16 +247,16 @@ fn is_date(date: i64) -> bool {
 
 // None where there is no such date.
 fn day_of(date: i64) -> Option<u64> {
-    let (year, month, day) = (date / 10_000 - 2000, date / 100 % 100, date % 100);
-    if !(within(year, 0, 99) && within(month, 1, 12) && day >= 1) {
+    let (month, day) = (date / 100 % 100, (date % 100) as u64);
+    if !(is_date(date) && within(month, 1, 12)) {
         return None;
     }
-    let leap = year % 4 == 0;
-    let before = |month: i64| gates::DAYS_BEFORE[month as usize] as i64 + (leap && month >= 2) as i64;
-    if day > before(month) - before(month - 1) {
+    let year = (date / 10_000 - 2000) as u64;
+    let before = gate::days_before_month(year, month as usize - 1);
+    if day < 1 || day > gate::days_before_month(year, month as usize) - before {
         return None;
     }
-    Some((year * 365 + (year + 3) / 4 + before(month - 1) + day - 1) as u64)
+    Some(gate::days_before_year(year) + before + day - 1)
 }
 
 fn at(text: &mut Text) -> Option<Judged> {
@@ -238,7 +268,6 @@ fn at(text: &mut Text) -> Option<Judged> {
         _ => return None,
     };
     text.literal(b" (")?;
-    let on_grid = |z: i64| within(z, -1_000_000, 1_000_000);
     let (in_range, sound, shape) = match text.word() {
         b"circle" => {
             let [x, y] = text.signed_numbers()?;
@@ -267,18 +296,17 @@ fn read_rules(text: &mut Text) -> (Vec<Rule>, u64) {
         let Some((number, judged)) = rule_line(&mut line) else {
             return (rules, 10);
         };
-        if let Judged::OutOfRange = judged {
-            return (rules, 11);
-        }
-        if number != rules.len() as i64 + 1 {
-            return (rules, 12);
-        }
-        match judged {
-            Judged::Rule(rule) => rules.push(rule),
-            Judged::Late(refusal) => return (rules, refusal),
-            Judged::OutOfRange => return (rules, 11),
-        }
-        *text = line;
+        let refusal = match judged {
+            Judged::OutOfRange => 11,
+            _ if number != rules.len() as i64 + 1 => 12,
+            Judged::Late(refusal) => refusal,
+            Judged::Rule(rule) => {
+                rules.push(rule);
+                *text = line;
+                continue;
+            }
+        };
+        return (rules, refusal);
     }
 }
 
@@ -289,19 +317,19 @@ fn step_line(text: &mut Text) -> Option<Step> {
     text.literal(b"(")?;
     let mut step = Step::default();
     let (kind, count) = match text.word() {
-        b"assign" => (0, 2),
-        b"withdraw" => (1, 2),
-        b"grant" => (2, 2),
-        b"take" => (3, 2),
-        b"open" => (4, 2),
-        b"activate" => (5, 2),
-        b"deactivate" => (6, 2),
-        b"access" => (7, 3),
-        b"finish" => (8, 1),
-        b"close" => (9, 1),
-        b"move" => (10, 1),
-        b"lost" => (11, 1),
-        b"clock" => (12, 1),
+        b"assign" => (ASSIGN, 2),
+        b"withdraw" => (WITHDRAW, 2),
+        b"grant" => (GRANT, 2),
+        b"take" => (TAKE, 2),
+        b"open" => (OPEN, 2),
+        b"activate" => (ACTIVATE, 2),
+        b"deactivate" => (DEACTIVATE, 2),
+        b"access" => (ACCESS, 3),
+        b"finish" => (FINISH, 1),
+        b"close" => (CLOSE, 1),
+        b"move" => (MOVE, 1),
+        b"lost" => (LOST, 1),
+        b"clock" => (CLOCK, 1),
         _ => return None,
     };
     step.kind = kind;
@@ -315,7 +343,7 @@ fn step_line(text: &mut Text) -> Option<Step> {
         let [third] = text.numbers()?;
         step.third = third as u64;
     }
-    if kind == 10 {
+    if kind == MOVE {
         [step.x, step.y] = text.signed_numbers()?;
     }
     text.literal(b")\n")?;
@@ -367,7 +395,7 @@ fn respond(input: &[u8], out: &mut Vec<u8>) {
     }
     let mut state = State::fresh();
     for step in &steps {
-        let answer = gates::step::<false>(&mut state, &rules, step);
+        let answer = gate::step::<false>(&mut state, &rules, step);
         let (number, rule, selected, ended) = (answer % 64, answer / 64 % 256, answer / 16_384 % 256, answer / 4_194_304);
         if number == 0 {
             put_line(b"yes", &[selected, ended], out);
@@ -382,51 +410,63 @@ fn respond(input: &[u8], out: &mut Vec<u8>) {
 // A line's rank among all that can be, or its refusal: 10, 11, then 15, then 16. A good line goes into the state.
 fn saved_line(text: &mut Text, next: usize, state: &mut State) -> Result<usize, u64> {
     let (form, values) = saved_form(text).ok_or(10u64)?;
-    let [a, b, c] = values;
-    let on_grid = |z: i64| within(z, -1_000_000, 1_000_000);
-    let in_range = match form {
+    if !is_saved_in_range(form, values) {
+        return Err(11);
+    }
+    let rank = saved_rank(form, values.map(|value| value as usize));
+    if if next == 0 { rank != 0 } else { rank < next } {
+        return Err(15);
+    }
+    put_saved(form, values, state).ok_or(16u64)?;
+    Ok(rank)
+}
+
+fn is_saved_in_range(form: u64, [a, b, c]: [i64; 3]) -> bool {
+    match form {
         0 => within(a, 0, LAST_TIME as i64),
         1 => within(a, 0, 63) && within(b, 0, 31),
         2 | 5 => within(a, 0, 31) && within(b, 0, 31),
         3 => within(a, 0, 31) && within(b, 0, 63),
         4 => within(a, 0, 31) && on_grid(b) && on_grid(c),
         _ => within(a, 0, 31) && within(b, 0, 31) && within(c, 0, 63),
-    };
-    if !in_range {
-        return Err(11);
     }
-    let (i, j, k) = (a as usize, b as usize, c as usize);
-    let rank = match form {
+}
+
+// Of each session one line opens it, one places it, and 32 are for its roles.
+fn saved_rank(form: u64, [a, b, c]: [usize; 3]) -> usize {
+    match form {
         0 => 0,
-        1 => 1 + i * 32 + j,
-        2 => 2049 + i * 32 + j,
-        3 => 3073 + i * 34,
-        4 => 3073 + i * 34 + 1,
-        5 => 3073 + i * 34 + 2 + j,
-        _ => 4161 + (i * 32 + j) * 64 + k,
-    };
-    if if next == 0 { rank != 0 } else { rank < next } {
-        return Err(15);
+        1 => 1 + a * 32 + b,
+        2 => 2049 + a * 32 + b,
+        3 => 3073 + a * 34,
+        4 => 3073 + a * 34 + 1,
+        5 => 3073 + a * 34 + 2 + b,
+        _ => 4161 + (a * 32 + b) * 64 + c,
     }
+}
+
+// None where the line does not rest on those before it.
+fn put_saved(form: u64, [a, b, c]: [i64; 3], state: &mut State) -> Option<()> {
+    let (i, j, k) = (a as usize, b as usize, c as usize);
     match form {
         0 => state.time = a as u64,
         1 => state.assigned[i] |= 1 << j,
         2 => state.granted[i] |= 1 << j,
         3 => state.sessions[i] = Session { user: Some(j), ..Session::default() },
         4 => {
-            state.sessions[i].user.ok_or(16u64)?;
+            state.sessions[i].user?;
             state.sessions[i].position = Some((b, c));
         }
         5 => {
-            let user = state.sessions[i].user.ok_or(16u64)?;
+            let user = state.sessions[i].user?;
             if !has(state.assigned[user], j) {
-                return Err(16);
+                return None;
             }
             state.sessions[i].active |= 1 << j;
         }
         _ => state.did[i][j] |= 1 << k,
     }
-    Ok(rank)
+    Some(())
 }
 
 fn saved_form(text: &mut Text) -> Option<(u64, [i64; 3])> {
@@ -513,26 +553,4 @@ fn put_set(word: &[u8], first: &[u64], set: u64, out: &mut Vec<u8>) {
         put_line(word, &values[..first.len() + 1], out);
         rest &= rest - 1;
     }
-}
-
-fn main() {
-    let words: Vec<String> = env::args().collect();
-    if words.len() != 3 {
-        println!("texts steps|saved TIMES < text");
-        process::exit(2);
-    }
-    let times: u64 = words[2].parse().unwrap();
-    let mut input = Vec::new();
-    std::io::stdin().read_to_end(&mut input).unwrap();
-    let mut out = Vec::with_capacity(1_048_576);
-    for _ in 0..times {
-        if words[1] == "steps" {
-            respond(black_box(&input), &mut out);
-        } else {
-            let state = read_state(black_box(&input)).unwrap_or_else(|_| State::fresh());
-            write_state(black_box(&state), &mut out);
-        }
-        black_box(&out);
-    }
-    println!("{} {}", out.iter().fold(0, |sum, &byte| gates::added(sum, byte as u64)), out.len());
 }

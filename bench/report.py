@@ -1,0 +1,183 @@
+"""What was measured, as the table and the sentences of docs/SPEED.md."""
+import math
+import re
+import textwrap
+from typing import NamedTuple
+
+import plot
+
+PAGE = 'docs/SPEED.md'
+PICTURE = 'docs/speed.svg'
+
+RULE_COUNTS = [0, 8, 32, 128]
+MIXED = [f'`run`, mixed list, {count} rules' for count in RULE_COUNTS]
+HEAVY = '`run`, heavy list, 128 rules'
+LISTS = MIXED + [HEAVY]
+
+# "a mixed list of steps costs at most 2.5 times what a Rust gate that selects costs, a list heavy in rules at most 1.6 times"
+BARS = {MIXED[3]: 2.5, HEAVY: 1.6}
+
+
+class Found(NamedTuple):
+    rounds: int
+    processor: str
+    compiler: str
+    # Steps in a batch, and in a list.
+    batch: int
+    list_steps: int
+    # Lists first, then the full input, the same only read, and the saved state.
+    list_names: list
+    text_names: list
+    # How often each text is worked through in one run.
+    text_times: list
+    # Steps in the full input.
+    input_steps: int
+    # Of each work and side the seconds for one step or text.
+    seconds: dict
+    # Of some works and each side the most bytes held.
+    memory: dict
+    # Of each work whether all its sides printed the same checksum.
+    is_alike: dict
+
+
+def printed(found):
+    return '\n\n'.join(parts(found).values())
+
+
+def write(found):
+    page = read_page()
+    for name, text in parts(found).items():
+        page = re.sub(place(name), lambda match: match[1] + text + '\n' + match[2], page)
+    with open(PAGE, 'w') as file:
+        file.write(page)
+    speeds = {side: [1 / found.seconds[name][side] for name in MIXED] for side in ('selecting', 'ours', 'plain')}
+    with open(PICTURE, 'w') as file:
+        file.write(plot.drawn(RULE_COUNTS, speeds))
+
+
+def read_page():
+    """The page, which has a place for each part."""
+    with open(PAGE) as file:
+        page = file.read()
+    for name in PARTS:
+        if len(re.findall(place(name), page)) != 1:
+            raise SystemExit(f'{PAGE} has no place for {name}')
+    return page
+
+
+# The mark before a part and the one after it.
+def place(name):
+    return f'(?s)(<!-- {name}: written by bench/run -->\n).*?(<!-- end -->)'
+
+
+# Without what stands in brackets.
+def short(name):
+    return name.split(' (')[0]
+
+
+def paragraph(text):
+    return textwrap.fill(text, 150, break_long_words=False, break_on_hyphens=False)
+
+
+def parts(found):
+    return {name: made(found) for name, made in PARTS.items()}
+
+
+def table_part(found):
+    return '\n\n'.join([paragraph(buffers(found)), paragraph(runs(found)), table(found)])
+
+
+def buffers(found):
+    return (f'Buffers are treated alike on each side. Steps and answers are cleared before each batch of {found.batch} steps. The space for what a '
+            'text gives is cleared and written once before any time is taken, and then written over without clearing. No cache is cleared.')
+
+
+def runs(found):
+    times = ', '.join(map(str, found.text_times[:-1])) + f' and {found.text_times[-1]}'
+    return (f'Each program was run {found.rounds} times, all in turn, {found.list_steps:,} steps a run, the texts {times} times. Shown is the '
+            'best run by processor time, less the best run that only makes the list or works through the text once. Memory is the most that the whole '
+            f'program held (VmHWM). Processor: {found.processor}. Rust: {found.compiler}, `-C opt-level=3`.')
+
+
+def table(found):
+    rows = [['work', 'unit', 'ours', 'Rust, selecting', 'Rust, plain', "ours to selecting's", "plain's to ours", 'checksums']]
+    rows += [row(found, name, 'steps a second', lambda seconds: 1 / seconds) for name in found.list_names]
+    rows += [row(found, name, 'ms', lambda seconds: seconds * 1e3) for name in found.text_names]
+    for name, sides in found.memory.items():
+        label = 'peak memory, ' + short(name)
+        rows.append([label, 'MB'] + costs(sides, lambda held: held / 1e6, digits=2) + [''])
+    widths = [max(len(row[i]) for row in rows) for i in range(len(rows[0]))]
+    rows.insert(1, ['-' * width for width in widths[:2]] + ['-' * (width - 1) + ':' for width in widths[2:-1]] + ['-' * widths[-1]])
+    lines = []
+    for cells in rows:
+        aligned = [cell.rjust(width) if 2 <= i < 7 else cell.ljust(width) for i, (cell, width) in enumerate(zip(cells, widths))]
+        lines.append('| ' + ' | '.join(aligned) + ' |')
+    return '\n'.join(lines)
+
+
+def row(found, name, unit, shown):
+    return [name, unit] + costs(found.seconds[name], shown) + ['alike' if found.is_alike[name] else 'DIFFER']
+
+
+# What each side costs, as it is shown, and the ratios of the costs.
+def costs(sides, shown, digits=3):
+    values = [rounded(shown(sides[side]), digits) if side in sides else '' for side in ('ours', 'selecting', 'plain')]
+    pairs = [('ours', 'selecting'), ('plain', 'ours')]
+    return values + [f'{sides[first] / sides[second]:.{digits - 1}f}' if first in sides else '' for first, second in pairs]
+
+
+# So many digits count.
+def rounded(value, digits=3):
+    places = digits - 1 - math.floor(math.log10(value))
+    return f'{round(value, places):,.{max(places, 0)}f}'
+
+
+def bars(found):
+    lines = []
+    for name, most in BARS.items():
+        ratio = ratio_of(found, name, 'ours', 'selecting')
+        lines.append(f"- {name}: our time is {ratio:.2f} times the selecting gate's, at most {most} is wanted: {verdict(ratio <= most)}.")
+    for name in BARS:
+        ratio = ratio_of(found, name, 'plain', 'ours')
+        lines.append(f"- {name}: the plain gate's time is {ratio:.2f} times ours, more than 1 is wanted: {verdict(ratio > 1)}.")
+    return '\n'.join(lines)
+
+
+def verdict(is_met):
+    return 'met' if is_met else '**not met**'
+
+
+def ratio_of(found, name, first, second):
+    return found.seconds[name][first] / found.seconds[name][second]
+
+
+def step_times(found):
+    none, most = [{side: found.seconds[name][side] * 1e9 for side in ('ours', 'selecting')} for name in (MIXED[0], MIXED[3])]
+    return paragraph(
+        f'A mixed step takes us {none["ours"]:.0f} ns without rules and {most["ours"]:.0f} ns with {RULE_COUNTS[3]}; the selecting Rust gate takes '
+        f'{none["selecting"]:.0f} and {most["selecting"]:.0f} ns. So we pay {none["ours"] - none["selecting"]:.0f} ns more at a step without rules, and '
+        f'{most["ours"] - most["selecting"]:.0f} ns more with {RULE_COUNTS[3]}.')
+
+
+def text_times(found):
+    whole, once, saved = [found.seconds[name]['ours'] * 1e3 for name in found.text_names]
+    steps = found.input_steps * found.seconds[MIXED[3]]['ours'] * 1e3
+    return paragraph(
+        f'A full input takes {rounded(whole)} ms. To read it once takes {rounded(once)} ms, and its steps are read twice; {found.input_steps:,} steps of the '
+        f'mixed list take {rounded(steps)} ms through `run`. {whole - 2 * once - steps:.1f} ms are left for what `respond` does beyond that. A full saved state '
+        f'takes {rounded(saved)} ms.')
+
+
+def behind(found):
+    slower = [(name, ratio_of(found, name, 'ours', 'selecting')) for name in found.list_names + found.text_names]
+    lines = ["Our time to Rust's, selecting, the largest first:", '']
+    for name, ratio in sorted(slower, key=lambda pair: -pair[1]):
+        lines.append(f'- {ratio:.2f}: {short(name)}')
+    quicker = [str(count) for count, name in zip(RULE_COUNTS, MIXED) if ratio_of(found, name, 'plain', 'ours') < 1]
+    lines += ['', f'The plain Rust gate is quicker than ours with this many rules: {", ".join(quicker)}.' if quicker
+              else 'The plain Rust gate is nowhere quicker than ours.']
+    return '\n'.join(lines)
+
+
+# Each has its place in the page.
+PARTS = {'table': table_part, 'bars': bars, 'steps': step_times, 'texts': text_times, 'behind': behind}
