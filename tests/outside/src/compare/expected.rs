@@ -28,7 +28,7 @@ pub fn accepted_state(rules: &[u8], state: &[u8]) -> Result<(Vec<Rule>, State), 
     Ok((rules, state))
 }
 
-/// Steps as long as a program's input that is refused are refused, "before all else".
+/// Steps have the program's limit: 19 "comes before all else".
 pub fn expected_run(
     rules: &[u8],
     state: &[u8],

@@ -78,14 +78,8 @@ impl Source<'_> {
         if self.state.time < start && self.random.percent(10) {
             return Step::Clock { time: start };
         }
-        let step = match self.random.below(100) {
-            0..=81 => self.likely_of_some_kind(),
-            _ => None,
-        };
-        let step = step.unwrap_or_else(|| {
-            let kind = self.kind();
-            self.any(kind)
-        });
+        let likely = if self.random.percent(82) { self.likely_of_some_kind() } else { None };
+        let step = likely.unwrap_or_else(|| self.any_of_some_kind());
         if self.random.percent(2) {
             self.with_a_number_outside(step)
         } else {
@@ -93,16 +87,17 @@ impl Source<'_> {
         }
     }
 
+    /// While no role is active, none of the steps that would end one.
     fn likely_of_some_kind(&mut self) -> Option<Step> {
-        (0..8).find_map(|_| {
-            let kind = self.kind();
-            let too_early = self.state.active.is_empty() && ends_roles(kind);
-            if too_early {
-                None
-            } else {
-                self.likely(kind)
-            }
+        (0..8).find_map(|_| match self.kind() {
+            kind if ends_roles(kind) && self.state.active.is_empty() => None,
+            kind => self.likely(kind),
         })
+    }
+
+    fn any_of_some_kind(&mut self) -> Step {
+        let kind = self.kind();
+        self.any(kind)
     }
 
     fn kind(&mut self) -> Kind {

@@ -71,16 +71,6 @@ impl Term {
             Term::Every { start, .. } => start.exists(),
         }
     }
-
-    pub fn name(&self) -> &'static str {
-        match self {
-            Term::Dates { .. } => "dates",
-            Term::Week { .. } => "week",
-            Term::Months { .. } => "months",
-            Term::Nth { .. } => "nth",
-            Term::Every { .. } => "every",
-        }
-    }
 }
 
 pub fn weekday(day: i64) -> i64 {
