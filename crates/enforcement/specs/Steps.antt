@@ -5,7 +5,7 @@ use mathlib.Core.Bool.{Bool, true, false, not, cond, _&&_}
 use mathlib.Core.List.{List}
 use lib.Dec.{eqb, ltb}
 use lib.ListN.{set}
-use lib.IntN.{ℤ}
+use lib.IntN.{ℤ, pos}
 use Rattle.sets.specs.Sets.{with, without, any}
 use Rattle.places.specs.Places.{onGrid}
 use Rattle.places.specs.declared.Position.{Position}
@@ -43,6 +43,14 @@ actionOf step =
     (cond (eqb (step .kind) 10) (moveOf (step .first) (step .x) (step .y))
     (cond (eqb (step .kind) 11) (ranged (ltb (step .first) 32) (Lost (step .first)))
     (cond (eqb (step .kind) 12) (ranged (isTime (step .first)) (Clock (step .first))) Malformed))))))))))))
+
+-- ---- a step by its kind's number: one that has no coordinates, and a move
+
+abbrev pub numbered : ℕ → ℕ → ℕ → ℕ → Step
+numbered kind first second third = record { kind = kind; first = first; second = second; third = third; x = pos 0; y = pos 0 }
+
+abbrev pub moved : ℕ → ℤ → ℤ → Step
+moved session x y = record { kind = 10; first = session; second = 0; third = 0; x = x; y = y }
 
 -- ---- the table's second column: "Checks run in the order given", those before 30
 

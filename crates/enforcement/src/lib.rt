@@ -3,6 +3,7 @@ mod acceptance;
 mod configurations;
 mod events;
 mod kinds;
+mod methods;
 mod runs;
 pub mod states;
 pub mod steps;
