@@ -1,4 +1,4 @@
-// Lists of rules and steps made by a small generator and run in batches from a fresh state, for bench/compare.sh. With no input it
+// Lists of rules and steps made by a small generator and run in batches from a fresh state, for bench/run. With no input it
 // prints the checksum of all answers to a short list of each kind, and what a list gives that is lent one entry too few. With three
 // bytes of input, list, batches and `r` or `g`, it runs one list, or only makes it, so that the time of making can be taken off.
 // bench/gates.rs makes the same lists.

@@ -1,4 +1,4 @@
-// The program's whole work on a text, over and over, for bench/texts.sh. The input's first byte says which: `s` reads a saved state under
+// The program's whole work on a text, over and over, for bench/run. The input's first byte says which: `s` reads a saved state under
 // no rules and writes it, any other answers rules and steps. The second says how often, by its remainder by 64. The text follows. It prints
 // a checksum of what was written and its length. With no input it does both on a short text of each kind.
 ghost use mathlib.Core.Path.{_≡_};
