@@ -66,7 +66,7 @@ returns-2 c =
     let i = c .before .before .before .before .rules .i in
     let e : 1 + i ≡ i + 1 = omega arith in
     sym (ap lowestOf (lowest-stop (λ rule. ruleHolds rule (start .args .state)) (start .args .t1 .slots) 1 (start .args .t1 .length) i _ (search needs) (omega (arith, slots-length start))
-    (c .before .before .before .before .rules .inv .1) (sym (c .before .holds .ensures) ∙ not-true _ (c .if2 .taken)) ∙ ap Rattle.enforcement.specs.Decisions.broken e))
+    (c .before .before .before .before .rules .inv .1) (sym (c .before .holds .ensures) ∙ not-true _ (c .if2 .taken)) ∙ ap Rattle.selection.specs.Lowest.broken e))
 
 pub lowest-broken-spec : {M : Type 1} → statement M
 lowest-broken-spec =
