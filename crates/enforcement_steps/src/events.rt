@@ -8,7 +8,7 @@ use crate::states::ready;
 use crate::steps;
 use enforcement::State;
 
-pub fn all() {
+pub(crate) fn all() {
     heading(
         b"needs 4 3, needs 3 2, needs 2 1, during 1 (week 6 6 0000 2400), at 1 (inside (box -10 -10 10 10)), needs 6 5",
     );

@@ -7,11 +7,11 @@ use rules::RuleList;
 use rules::Slot;
 
 // A rule that nothing breaks.
-pub fn idle() -> Rule {
+pub(crate) fn idle() -> Rule {
     Rule::MaxRoles { limit: 32 }
 }
 
-pub fn listed(
+pub(crate) fn listed(
     length: usize,
     first: Rule,
     second: Rule,
@@ -32,20 +32,20 @@ pub fn listed(
     RuleList { slots, length }
 }
 
-pub fn single(rule: Rule) -> RuleList {
+pub(crate) fn single(rule: Rule) -> RuleList {
     listed(1, rule, idle(), idle(), idle(), idle(), idle())
 }
 
-pub fn pair(first: Rule, second: Rule) -> RuleList {
+pub(crate) fn pair(first: Rule, second: Rule) -> RuleList {
     listed(2, first, second, idle(), idle(), idle(), idle())
 }
 
-pub fn empty() -> RuleList {
+pub(crate) fn empty() -> RuleList {
     listed(0, idle(), idle(), idle(), idle(), idle(), idle())
 }
 
 // The rules that assign, withdraw and grant select.
-pub fn holding() -> RuleList {
+pub(crate) fn holding() -> RuleList {
     listed(
         5,
         Rule::Prerequisite {
@@ -64,7 +64,7 @@ pub fn holding() -> RuleList {
 }
 
 // The rules that activate and deactivate select.
-pub fn activation() -> RuleList {
+pub(crate) fn activation() -> RuleList {
     listed(
         5,
         Rule::MaxActive { limit: 2 },
@@ -83,7 +83,7 @@ pub fn activation() -> RuleList {
 }
 
 // The rules that access selects.
-pub fn history() -> RuleList {
+pub(crate) fn history() -> RuleList {
     pair(
         Rule::HistorySeparation {
             first: 1,
@@ -97,7 +97,7 @@ pub fn history() -> RuleList {
 }
 
 // A chain, the far end first: one pass over the rules ends one role of it.
-pub fn chain() -> RuleList {
+pub(crate) fn chain() -> RuleList {
     listed(
         6,
         needs(4, 3),
@@ -120,11 +120,11 @@ pub fn chain() -> RuleList {
     )
 }
 
-pub fn cycle() -> RuleList {
+pub(crate) fn cycle() -> RuleList {
     pair(needs(1, 2), needs(2, 1))
 }
 
-pub fn two_sides() -> RuleList {
+pub(crate) fn two_sides() -> RuleList {
     pair(
         Rule::LocationContext {
             role: 1,
@@ -138,7 +138,7 @@ pub fn two_sides() -> RuleList {
 }
 
 // Those that the broken state breaks.
-pub fn broken() -> RuleList {
+pub(crate) fn broken() -> RuleList {
     listed(
         3,
         Rule::StaticSeparation {
@@ -154,7 +154,7 @@ pub fn broken() -> RuleList {
 }
 
 // The document's example under 'Texts'.
-pub fn example() -> RuleList {
+pub(crate) fn example() -> RuleList {
     pair(
         needs(2, 1),
         Rule::StaticSeparation {
@@ -164,11 +164,11 @@ pub fn example() -> RuleList {
     )
 }
 
-pub fn needs(role: u32, needed: u32) -> Rule {
+pub(crate) fn needs(role: u32, needed: u32) -> Rule {
     Rule::Dependency { role, needed }
 }
 
-pub fn during_month(role: u32, month: u32) -> Rule {
+pub(crate) fn during_month(role: u32, month: u32) -> Rule {
     Rule::TimeContext {
         role,
         term: Term::Months {
@@ -178,11 +178,11 @@ pub fn during_month(role: u32, month: u32) -> Rule {
     }
 }
 
-pub fn circle(radius: u32) -> Shape {
+pub(crate) fn circle(radius: u32) -> Shape {
     Shape::Circle { x: 0, y: 0, radius }
 }
 
-pub fn square(low: i32, high: i32) -> Shape {
+pub(crate) fn square(low: i32, high: i32) -> Shape {
     Shape::Box {
         left: low,
         bottom: low,

@@ -6,7 +6,7 @@ use crate::showing::shown_move;
 use crate::steps;
 use enforcement::State;
 
-pub fn all() {
+pub(crate) fn all() {
     io::write_all(1, b"numbers at the ends of their ranges\n");
     let state = assignments(State::fresh());
     let state = permissions(state);

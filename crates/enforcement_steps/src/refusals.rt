@@ -7,7 +7,7 @@ use crate::showing::shown_move;
 use crate::steps;
 use enforcement::State;
 
-pub fn all() {
+pub(crate) fn all() {
     heading(b"21 to 28");
     let state = prepared(State::fresh());
     let state = sessions(state);

@@ -7,7 +7,7 @@ use crate::states::ready;
 use crate::steps;
 use enforcement::State;
 
-pub fn all() {
+pub(crate) fn all() {
     heading(b"before 2 1, max-users 3 1, max-roles 2, apart 3 4, max-permissions 1 1");
     let state = assigned(State::fresh());
     carried(state);

@@ -6,13 +6,13 @@ use enforcement::Step;
 use rules::RuleList;
 
 // The step, the answer, and the next state for the case after it.
-pub fn shown(state: State, list: RuleList, step: Step) -> State {
+pub(crate) fn shown(state: State, list: RuleList, step: Step) -> State {
     write_step(step);
     answered(state, list, step)
 }
 
 // The same for a move, with the text of its point: nothing prints a signed number.
-pub fn shown_move(
+pub(crate) fn shown_move(
     state: State,
     list: RuleList,
     session: u64,
@@ -35,20 +35,20 @@ fn answered(state: State, list: RuleList, step: Step) -> State {
 }
 
 // The same for a case by itself, with what was handed in before it.
-pub fn shown_of(label: &[u8], state: State, list: RuleList, step: Step) {
+pub(crate) fn shown_of(label: &[u8], state: State, list: RuleList, step: Step) {
     io::write_all(1, label);
     io::write_all(1, b": ");
     shown(state, list, step);
 }
 
-pub fn heading(text: &[u8]) {
+pub(crate) fn heading(text: &[u8]) {
     io::write_all(1, b"\n");
     io::write_all(1, text);
     io::write_all(1, b"\n");
 }
 
 // A refusal leaves the time.
-pub fn show_time(state: State) {
+pub(crate) fn show_time(state: State) {
     io::write_all(1, b"time");
     number(state.time);
     io::write_all(1, b"\n");

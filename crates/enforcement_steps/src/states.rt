@@ -14,7 +14,7 @@ use places::Position;
 use places::Side;
 use rules::Rule;
 
-pub fn all() {
+pub(crate) fn all() {
     heading(b"handed-in times and sessions");
     times();
     open_sessions();
@@ -187,7 +187,7 @@ fn order_on_broken(state: State) -> State {
 
 // ---- states
 
-pub fn closed() -> Session {
+pub(crate) fn closed() -> Session {
     kept(0, Position::Unknown)
 }
 
@@ -199,7 +199,7 @@ fn kept(user: u32, position: Position) -> Session {
     }
 }
 
-pub fn opened(user: u32, position: Position) -> Session {
+pub(crate) fn opened(user: u32, position: Position) -> Session {
     Session {
         is_open: true,
         user,
@@ -241,12 +241,12 @@ fn with_roles(place: Position, active: [u32; 32]) -> State {
 }
 
 // No role is active.
-pub fn ready() -> State {
+pub(crate) fn ready() -> State {
     with_roles(Position::Unknown, [0; 32])
 }
 
 // Roles 1 to 4 are active in sessions 0 to 3, and 5 and 6 in session 1 as well.
-pub fn linked() -> State {
+pub(crate) fn linked() -> State {
     let mut active = [0u32; 32];
     active[0] = 2;
     active[1] = 4 + 32 + 64;

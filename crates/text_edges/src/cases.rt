@@ -15,7 +15,7 @@ pub enum Reader {
 }
 
 // A line for each case: the text, then what came.
-pub fn each(reader: Reader, cases: &[u8]) {
+pub(crate) fn each(reader: Reader, cases: &[u8]) {
     let mut rest = cases;
     while 0 < rest.len() {
         let end = case_length(rest);
@@ -48,7 +48,7 @@ fn shown(reader: Reader, text: &[u8]) {
 }
 
 // A line for each length, from no byte to the whole text.
-pub fn cuts(reader: Reader, text: &[u8]) {
+pub(crate) fn cuts(reader: Reader, text: &[u8]) {
     for end in 0..text.len() {
         cut(reader, &text[..end]);
     }

@@ -7,7 +7,7 @@ use crate::showing::heading;
 use forms::Written;
 
 // The response to an input.
-pub fn answered(input: &[u8]) {
+pub(crate) fn answered(input: &[u8]) {
     io::write_all(1, b": ");
     let mut output = [0u8; 1024];
     let written = texts::respond(input, &mut output);
@@ -25,7 +25,7 @@ fn write_response(output: &[u8], length: usize) {
     showing::front(output, length);
 }
 
-pub fn all() {
+pub(crate) fn all() {
     heading(b"input: a missing (steps) is 10 at the line after the last");
     missing();
     heading(b"input: one form a line, line feed after each, single spaces");

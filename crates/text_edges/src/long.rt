@@ -14,7 +14,7 @@ const CLOCK: [u8; 10] = *b"(clock 0)\n";
 
 const LOST: [u8; 9] = *b"(lost 0)\n";
 
-pub fn all() {
+pub(crate) fn all() {
     heading(b"rule list: numbered 1 to 128");
     most_rules();
     rule_after(b"128 rules and rule 129", b"(rule 129 (max-roles 32))\n");

@@ -3,7 +3,7 @@ use crate::cases::Reader;
 use crate::cases::each;
 use crate::showing::heading;
 
-pub fn all() {
+pub(crate) fn all() {
     heading(b"rule list: roles, permissions and limits, number outside its range");
     roles_and_limits();
     heading(b"rule list: places, number outside its range");

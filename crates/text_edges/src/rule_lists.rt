@@ -5,7 +5,7 @@ use crate::cases::each;
 use crate::showing;
 use crate::showing::heading;
 
-pub fn answered(text: &[u8]) {
+pub(crate) fn answered(text: &[u8]) {
     let loaded = rule_text::read_rules(text);
     if loaded.number == 0 {
         showing::accepted();
@@ -14,7 +14,7 @@ pub fn answered(text: &[u8]) {
     showing::refused_at(loaded.number, loaded.line);
 }
 
-pub fn all() {
+pub(crate) fn all() {
     io::write_all(1, b"rule list: one form a line, line feed after each\n");
     line_feeds();
     heading(b"rule list: single spaces");

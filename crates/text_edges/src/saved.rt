@@ -39,7 +39,7 @@ fn read(list: RuleList, text: &[u8]) -> Outcome {
 }
 
 // A text under the rules of another.
-pub fn answered(rules: &[u8], text: &[u8]) {
+pub(crate) fn answered(rules: &[u8], text: &[u8]) {
     let loaded = rule_text::read_rules(rules);
     let list = loaded.list;
     write_outcome(read(list, text));
@@ -61,7 +61,7 @@ fn broken(rule: usize) {
     io::write_all(1, b"\n");
 }
 
-pub fn all() {
+pub(crate) fn all() {
     heading(b"saved state: one form a line, line feed after each, single spaces");
     lines();
     heading(b"saved state: no leading zeros, no minus but before x and y, at most 10 digits");

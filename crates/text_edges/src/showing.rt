@@ -1,13 +1,13 @@
 // A case as it is printed: its text in quotes or its name, then what came.
 
-pub fn heading(text: &[u8]) {
+pub(crate) fn heading(text: &[u8]) {
     io::write_all(1, b"\n");
     io::write_all(1, text);
     io::write_all(1, b"\n");
 }
 
 // A text in quotes, the bytes that do not show by their names in Rust.
-pub fn quoted(text: &[u8]) {
+pub(crate) fn quoted(text: &[u8]) {
     io::write_all(1, b"\"");
     for i in 0..text.len() {
         show_byte(text[i]);
@@ -31,20 +31,20 @@ fn plain(byte: u8) {
     io::write_all(1, &one);
 }
 
-pub fn named(name: &[u8]) {
+pub(crate) fn named(name: &[u8]) {
     io::write_all(1, name);
 }
 
-pub fn number(n: u64) {
+pub(crate) fn number(n: u64) {
     io::write_all(1, b" ");
     io::print_decimal(1, n);
 }
 
-pub fn accepted() {
+pub(crate) fn accepted() {
     io::write_all(1, b": accepted\n");
 }
 
-pub fn refused_at(cause: u64, line: usize) {
+pub(crate) fn refused_at(cause: u64, line: usize) {
     io::write_all(1, b":");
     number(cause);
     io::write_all(1, b" at line");
@@ -53,7 +53,7 @@ pub fn refused_at(cause: u64, line: usize) {
 }
 
 // The first bytes of a text.
-pub fn front(text: &[u8], length: usize) {
+pub(crate) fn front(text: &[u8], length: usize) {
     if text.len() < length {
         return;
     }

@@ -3,7 +3,7 @@ use crate::cases::Reader;
 use crate::cases::each;
 use crate::showing::heading;
 
-pub fn all() {
+pub(crate) fn all() {
     heading(b"step: no leading zeros, a minus only before x and y, never before 0");
     signs();
     heading(b"step: at most 10 digits; past its range is 20");

@@ -51,7 +51,7 @@ const SAVED: [u8; 169] = *b"\
 (did 0 0 1)\n\
 (did 2 3 0)\n";
 
-pub fn all() {
+pub(crate) fn all() {
     heading(
         b"writing a rule list: 18 and every byte stays, or the text's length and bytes past it stay",
     );
