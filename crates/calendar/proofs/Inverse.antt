@@ -5,7 +5,9 @@ use mathlib.Core.Bool.{Bool, true, false}
 use Prim.Native.Nat.{ℕ, suc, _+_, _-_, _*_, _/_, _%_, _<_, _≤_}
 use native.Mathlib.Decide.{ℕ-discrete}
 use native.Mathlib.Omega.{arith}
-use borrow.Author.Tests.{le-leb}
+use mathlib.Core.Logic.{_↔_}
+use borrow.Author.Tests.{le-leb, leb-true, leb-false}
+use lib.Dec.{leb}
 use Rattle.calendar.specs.Days.{leapYear, yearStart, yearOf, monthStart, monthOf, dateIn, dateOf, dateNumber, isDate, dayNumber, dayOfDate}
 use Rattle.calendar.specs.declared.days.DayFound.the-variants.{Day}
 use Rattle.calendar.proofs.Last.{later}
@@ -15,12 +17,13 @@ use Rattle.calendar.proofs.Dates.{DayOfMonth, valid-date, is-day-of-mon
 
 -- ---- from a day to its date and back
 
-record Digits (number year month day : ℕ) : Type 0 where
-  year-digits : number / 10000 ≡ year
-  month-digits : number / 100 % 100 ≡ month
-  day-digits : number % 100 ≡ day
+-- The three parts of a number yyyymmdd.
+pub record Digits (number year month day : ℕ) : Type 0 where
+  pub year-digits : number / 10000 ≡ year
+  pub month-digits : number / 100 % 100 ≡ month
+  pub day-digits : number % 100 ≡ day
 
-digits : (year month day : ℕ) → month < 100 → day < 100 → Digits (year * 10000 + month * 100 + day) year month day
+pub digits : (year month day : ℕ) → month < 100 → day < 100 → Digits (year * 10000 + month * 100 + day) year month day
 digits year month day month-short day-short =
     let hundreds : (year * 10000 + month * 100 + day) / 100 ≡ year * 100 + month = omega arith in
     record { year-digits = omega arith; month-digits = omega arith; day-digits = omega arith }
@@ -95,6 +98,10 @@ unfolding dayOfDate
 date-found a day true tested same = (tested, cc)
 date-found a day false tested same = (cc, cc)
 
+-- The number yyyymmdd of a day of the range is a date, and it is that day's.
+pub number-of-day : (day : ℕ) → day < 36525 → (isDate (dateNumber (dateOf day)) ≡ true) × (dayNumber (dateNumber (dateOf day)) ≡ day)
+number-of-day day high = date-found (dateNumber (dateOf day)) day (isDate (dateNumber (dateOf day))) refl (day-date-day day high)
+
 -- The day of a date is in the range, and its date is that date.
 pub date-day-date : (a day : ℕ) → dayOfDate a ≡ Day day → (day < 36525) × (dateNumber (dateOf day) ≡ a)
 date-day-date a day same =
@@ -102,6 +109,11 @@ date-day-date a day same =
     let year = year-of-number a (found .0) in
     let end = year-start (suc (a / 10000 - 2000)) (omega arith) in
     (omega (arith, found .1), rw (found .1) at (number-again a (found .0)))
+
+-- The day of a number that is a date is in the range, and the number is that day's.
+pub day-of-number : (a : ℕ) → isDate a ≡ true → (dayNumber a < 36525) × (dateNumber (dateOf (dayNumber a)) ≡ a)
+unfolding dayOfDate
+day-of-number a date = date-day-date a (dayNumber a) (rw date)
 
 -- ---- order
 
@@ -143,3 +155,15 @@ module _ (a b : ℕ) (date-a : isDate a ≡ true) (date-b : isDate b ≡ true) (
 -- The day of an earlier date is an earlier day.
 pub days-in-order : (a b : ℕ) → isDate a ≡ true → isDate b ≡ true → a < b → dayNumber a < dayNumber b
 days-in-order a b date-a date-b less = before a b date-a date-b less (ℕ-discrete (a / 10000) (b / 10000))
+
+-- So dates are in order exactly where their days are.
+pub order-means : (a b : ℕ) → isDate a ≡ true → isDate b ≡ true → (dayNumber a ≤ dayNumber b) ↔ (a ≤ b)
+order-means a b date-a date-b = (by-number (leb a b) refl, by-day (ℕ-discrete a b))
+  where
+    by-number : (test : Bool) → leb a b ≡ test → dayNumber a ≤ dayNumber b → a ≤ b
+    by-number true tested days = leb-true a b tested
+    by-number false tested days = absurd (omega (arith, days-in-order b a date-b date-a (leb-false a b tested)))
+
+    by-day : Dec (a ≡ b) → a ≤ b → dayNumber a ≤ dayNumber b
+    by-day (yes same) numbers = rw same (omega arith)
+    by-day (no other) numbers = omega (arith, days-in-order a b date-a date-b (omega arith))

@@ -5,3 +5,5 @@ pub mod Dates
 pub mod Weekdays
 pub mod Meaning
 pub mod Inverse
+pub mod DateMeaning
+pub mod TermMeaning

@@ -1,22 +1,40 @@
 -- What the tests of terms say in plain words, both ways.
 -- Assumes nothing.
 use mathlib.Core.Path.{_≡_, refl}
-use mathlib.Core.Bool.{Bool, true, false, cond, _&&_, _||_}
-use mathlib.Core.Logic.{_↔_, _⊎_, inl, inr, ⊎-map, ⊎-elim}
+use mathlib.Core.Bool.{Bool, true, false, cond, not, _&&_, _||_, true≢false, false≢true, and-eq-true-iff}
+use mathlib.Core.Logic.{_↔_, Iff·trans, Iff·and, _⊎_, inl, inr, ⊎-map, ⊎-elim}
 use Prim.Native.Nat.{ℕ, _+_, _-_, _*_, _/_, _%_, _<_, _≤_}
 use native.Mathlib.Nat.{div-add-mod', mul-mod-left}
 use native.Mathlib.Omega.{arith}
-use borrow.Author.Tests.{leb-true, leb-false, le-leb, lt-leb, ltb-true, lt-ltb, eqb-true}
+use borrow.Author.Tests.{leb-true, leb-false, le-leb, lt-leb, ltb-true, lt-ltb, eqb-true, eqb-false, eq-eqb, ne-eqb, not-true}
 use lib.Dec.{leb, ltb, eqb}
 use Rattle.calendar.specs.Terms.{fromTo, minuteFromTo, multipleFrom, atMoment, termInRange, termSound, termHolds}
+use Rattle.calendar.specs.Statements.{FromTo, MinuteFromTo}
 use Rattle.calendar.specs.declared.terms.Term.{Term}
 use Rattle.sets.proofs.Booleans.{both, of-or, left-or, right-or}
 
-le-means : (a b : ℕ) → (leb a b ≡ true) ↔ (a ≤ b)
+pub le-means : (a b : ℕ) → (leb a b ≡ true) ↔ (a ≤ b)
 le-means a b = (leb-true a b, le-leb a b)
 
-lt-means : (a b : ℕ) → (ltb a b ≡ true) ↔ (a < b)
+pub lt-means : (a b : ℕ) → (ltb a b ≡ true) ↔ (a < b)
 lt-means a b = (ltb-true a b, lt-ltb a b)
+
+pub eq-means : (a b : ℕ) → (eqb a b ≡ true) ↔ (a ≡ b)
+eq-means a b = (eqb-true a b, eq-eqb a b)
+
+pub ne-means : (a b : ℕ) → (not (eqb a b) ≡ true) ↔ (a ≡ b → ⊥)
+ne-means a b = (λ e. eqb-false a b (not-true (eqb a b) e), λ n. rw (ne-eqb a b n))
+
+pub both-mean : {A B : Type 0} (a b : Bool) → (a ≡ true) ↔ A → (b ≡ true) ↔ B → (a && b ≡ true) ↔ (A × B)
+both-mean a b h k = Iff·trans (and-eq-true-iff a b) (Iff·and h k)
+
+pub fails-means : {A : Type 0} (a : Bool) → (a ≡ true) ↔ A → (a ≡ false) ↔ (A → ⊥)
+fails-means true h = (λ e. absurd (true≢false e), λ n. absurd (n (h .0 refl)))
+fails-means false h = (λ e x. false≢true (h .1 x), λ n. refl)
+
+pub one-fails : {A B : Type 0} (a b : Bool) → (a ≡ false) ↔ A → (b ≡ false) ↔ B → (a && b ≡ false) ↔ (A ⊎ B)
+one-fails true b h k = (λ e. inr (k .0 e), ⊎-elim (λ l. absurd (true≢false (h .1 l))) (λ r. k .1 r))
+one-fails false b h k = (λ e. inl (h .0 refl), λ e. refl)
 
 -- A range from a to b that goes past the end where a > b: both of its bounds keep a number in, or one of them.
 module _ {From To : Type 0} (a b : ℕ) (from to : Bool) (from-means : (from ≡ true) ↔ From) (to-means : (to ≡ true) ↔ To) where
@@ -34,12 +52,12 @@ module _ {From To : Type 0} (a b : ℕ) (from to : Bool) (from-means : (from ≡
   past-end-means = (kept (leb a b) refl, keeps)
 
 -- From a to b, both included; where a > b from a on or up to b.
-pub from-to-means : (a b x : ℕ) → (fromTo a b x ≡ true) ↔ (((a ≤ b) × (a ≤ x) × (x ≤ b)) ⊎ ((b < a) × ((a ≤ x) ⊎ (x ≤ b))))
+pub from-to-means : (a b x : ℕ) → (fromTo a b x ≡ true) ↔ FromTo a b x
 unfolding fromTo
 from-to-means a b x = past-end-means a b (leb a x) (leb x b) (le-means a x) (le-means x b)
 
 -- From minute h up to but not k; where h > k from h on or below k.
-pub minute-from-to-means : (h k minute : ℕ) → (minuteFromTo h k minute ≡ true) ↔ (((h ≤ k) × (h ≤ minute) × (minute < k)) ⊎ ((k < h) × ((h ≤ minute) ⊎ (minute < k))))
+pub minute-from-to-means : (h k minute : ℕ) → (minuteFromTo h k minute ≡ true) ↔ MinuteFromTo h k minute
 unfolding minuteFromTo
 minute-from-to-means h k minute = past-end-means h k (leb h minute) (ltb minute k) (le-means h minute) (lt-means minute k)
 

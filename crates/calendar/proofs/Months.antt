@@ -49,7 +49,8 @@ startsFromZero leap m = monthStart leap (m + 1)
 abbrev endsFromZero : Bool → ℕ → ℕ
 endsFromZero leap m = monthEnd leap (m + 1)
 
-month-next : (leap : Bool) (month : ℕ) → month < 12 → monthEnd leap month ≡ monthStart leap (month + 1)
+-- A month before the last ends where the next starts,
+pub month-next : (leap : Bool) (month : ℕ) → month < 12 → monthEnd leap month ≡ monthStart leap (month + 1)
 unfolding monthEnd
 month-next leap month less = simp (lt-ltb month 12 less)
 
@@ -76,12 +77,14 @@ pub record MonthOf (leap : Bool) (rest month : ℕ) : Type 0 where
   pub started : monthStart leap month ≤ rest
   pub ended : rest < monthEnd leap month
 
-first-start : (leap : Bool) → monthStart leap 1 ≡ 0
+-- the first starts with the year,
+pub first-start : (leap : Bool) → monthStart leap 1 ≡ 0
 unfolding monthStart commonStart
 first-start true = refl
 first-start false = refl
 
-last-end : (leap : Bool) → monthEnd leap 12 ≡ yearLength leap
+-- and the last ends with it.
+pub last-end : (leap : Bool) → monthEnd leap 12 ≡ yearLength leap
 unfolding monthEnd
 last-end leap = refl
 

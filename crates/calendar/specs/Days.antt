@@ -1,4 +1,5 @@
--- Document 01, 'Calendar': days, times of day and dates. That dates and days are inverse to each other is proved in proofs/Inverse.antt.
+-- Document 01, 'Calendar': days, times of day and dates. That dates and days are inverse to each other is proved in proofs/Inverse.antt,
+-- and that each next day has the next date in proofs/DateMeaning.antt.
 -- Assumes nothing.
 use Prim.Native.Nat.{ℕ, zero, suc, _+_, _-_, _*_, _/_, _%_}
 use mathlib.Core.Bool.{Bool, cond, not, _&&_, _||_}

@@ -1,4 +1,5 @@
--- Document 01, 'Calendar': the five terms, when each holds, and what 11 and 14 look for in one.
+-- Document 01, 'Calendar': the five terms, when each holds, and what 11 and 14 look for in one. What each says over numbers is proved in
+-- proofs/TermMeaning.antt.
 -- Assumes nothing.
 use Prim.Native.Nat.{ℕ, _+_, _-_, _*_, _/_, _%_}
 use mathlib.Core.Bool.{Bool, true, cond, not, _&&_, _||_}

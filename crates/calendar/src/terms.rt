@@ -66,7 +66,7 @@ impl Term {
         ensures { λ r. ⌜ r ≡ termInRange self ⌝ }
     {
         match self {
-            Term::Dates { from, to } => is_year(from / 10000) & is_year(to / 10000),
+            Term::Dates { from, to } => is_year(from as u64 / 10000) & is_year(to as u64 / 10000),
             Term::Week {
                 first,
                 last,
@@ -78,7 +78,8 @@ impl Term {
             }
             Term::Months { first, last } => between(1, 12, first) & between(1, 12, last),
             Term::Nth { ordinal, weekday } => between(1, 5, ordinal) & between(1, 7, weekday),
-            Term::Every { interval, from } => between(1, 1000, interval) & is_year(from / 10000),
+            Term::Every { interval, from } => between(1, 1000, interval)
+                & is_year(from as u64 / 10000),
         }
     }
 
@@ -200,10 +201,10 @@ fn between(low: u32, high: u32, x: u32) -> bool
     (low <= x) & (x <= high)
 }
 
-fn is_year(year: u32) -> bool
+fn is_year(year: u64) -> bool
     ensures { λ r. ⌜ r ≡ isYear year ⌝ }
 {
-    between(2000, 2099, year)
+    (Date::FIRST_YEAR <= year) & (year <= Date::LAST_YEAR)
 }
 
 // hhmm from low to high, minutes to 59.

@@ -1,3 +1,4 @@
 pub mod Signed
 pub mod Squares
+pub mod Grid
 pub mod Meaning

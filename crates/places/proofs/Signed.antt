@@ -47,3 +47,7 @@ wide fits = sfits-widen tt fits
 -- a local holds bits; those of a number in range are read as that number
 pub read-back : {z : ℤ} → mag z < 2 ^ 31 → toZ w32 (ofZ w32 z) ≡ z
 read-back small = toZ-ofZ (record { sfits = small })
+
+-- the same after a cast to 64 bits
+pub read-wide : {z : ℤ} → mag z < 2 ^ 31 → toZ w64 (ofZ w64 z) ≡ z
+read-wide small = toZ-ofZ (wide (record { sfits = small }))

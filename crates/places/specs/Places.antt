@@ -1,4 +1,5 @@
--- Document 01, 'Places': where a position lies with respect to a shape, and what 11 and 14 look for in a shape.
+-- Document 01, 'Places': where a position lies with respect to a shape, and what 11 and 14 look for in a shape. What that says over the
+-- integers is proved in proofs/Meaning.antt.
 -- Assumes nothing.
 use Prim.Native.Nat.{ℕ, _+_, _*_}
 use mathlib.Core.Bool.{Bool, true, false, cond, _&&_}

@@ -44,14 +44,16 @@ pub enum Outcome {
 }
 
 impl Point {
-    // The last coordinate of the grid, and with a minus the first.
-    pub const LAST: u64 = 1_000_000;
+    // The coordinates of the grid.
+    pub const FIRST: i64 = -1_000_000;
+
+    pub const LAST: i64 = 1_000_000;
 
     // Both coordinates are on the grid.
     pub fn in_range(self) -> bool
         ensures { λ r. ⌜ r ≡ pointInRange self ⌝ }
     {
-        on_grid(self.x) & on_grid(self.y)
+        on_grid(self.x as i64) & on_grid(self.y as i64)
     }
 }
 
@@ -76,14 +78,19 @@ impl Shape {
     {
         match self {
             Shape::Circle { x, y, radius } => {
-                (on_grid(x) & on_grid(y)) & ((1 <= radius) & (radius <= Shape::LAST_RADIUS))
+                let center = Point { x, y };
+                center.in_range() & ((1 <= radius) & (radius <= Shape::LAST_RADIUS))
             }
             Shape::Box {
                 left,
                 bottom,
                 right,
                 top,
-            } => (on_grid(left) & on_grid(bottom)) & (on_grid(right) & on_grid(top)),
+            } => {
+                let lowest = Point { x: left, y: bottom };
+                let highest = Point { x: right, y: top };
+                lowest.in_range() & highest.in_range()
+            }
         }
     }
 
@@ -201,10 +208,10 @@ fn in_box(left: i32, bottom: i32, right: i32, top: i32, point: Point) -> bool
 }
 
 // A coordinate of the grid.
-fn on_grid(z: i32) -> bool
+pub fn on_grid(z: i64) -> bool
     ensures { λ r. ⌜ r ≡ onGrid z ⌝ }
 {
-    gap(z, 0) <= Point::LAST
+    (Point::FIRST <= z) & (z <= Point::LAST)
 }
 
 // The distance of two coordinates: the one place where signed numbers are computed with.

@@ -1,5 +1,6 @@
 pub mod Breach
 pub mod Edges
 pub mod Every
+pub mod Acceptance
 pub mod Meaning
 pub mod Steps

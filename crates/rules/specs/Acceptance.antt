@@ -1,4 +1,5 @@
--- Document 01, 'Ranges', 'Rules' and 'Refused': what 11, 13 and 14 look for in a rule, and what 40 looks for in a rule list.
+-- Document 01, 'Ranges', 'Rules' and 'Refused': what 11, 13 and 14 look for in a rule, and what 40 looks for in a rule list. What that says
+-- over numbers is proved in proofs/Acceptance.antt.
 -- Assumes nothing.
 use mathlib.Core.Bool.{Bool, true, not, _&&_}
 use mathlib.Core.List.{List, [], _∷_, map}

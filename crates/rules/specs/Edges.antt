@@ -61,6 +61,10 @@ edges =
     -- "`week 5 5 2200 0600`: Saturday 01:00 no."; day 9660 is one
     ∷ weekday 9660 6
     ∷ term (Week 5 5 2200 600) (moment 9660 1 0) false
+    -- the same hour on the Friday before it, and that day's 22:00: the no is for the weekday alone
+    ∷ weekday 9659 5
+    ∷ term (Week 5 5 2200 600) (moment 9659 1 0) true
+    ∷ term (Week 5 5 2200 600) (moment 9659 22 0) true
     ∷ []
 
 -- every row of a table holds

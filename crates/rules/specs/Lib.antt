@@ -2,3 +2,4 @@ pub mod Breach
 pub mod Families
 pub mod Acceptance
 pub mod Edges
+pub mod Statements

@@ -32,15 +32,9 @@ pub enum Rule {
 }
 
 impl Rule {
-    pub const USERS: u32 = 64;
-
     pub const ROLES: u32 = 32;
 
     pub const PERMISSIONS: u32 = 32;
-
-    pub const SESSIONS: u32 = 32;
-
-    pub const OBJECTS: u32 = 32;
 
     // The largest limit of max-users.
     pub const MOST_USERS: u32 = 64;

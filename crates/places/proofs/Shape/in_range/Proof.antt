@@ -1,7 +1,7 @@
 -- `Shape::in_range` meets its contract.
 -- Assumes nothing.
 use borrow.Author.Needs.{needs}
-use Rattle.places.specs.Places.{shapeInRange}
+use Rattle.places.specs.Places.{shapeInRange, pointInRange}
 use Rattle.places.proofs.Signed.{read-back}
 use Rattle.places.proofs.Shape.in_range.Statement.{statement}
 use Rattle.places.proofs.Shape.in_range.Tie as tie
@@ -9,50 +9,38 @@ use Rattle.places.proofs.Shape.in_range.Tie as tie
 enum-known-self : tie.Need-enum-known-self
 enum-known-self c = search needs
 
-on-grid-requires : tie.Need-on-grid-requires
-on-grid-requires c κs = search needs
-
-on-grid-requires-2 : tie.Need-on-grid-requires-2
-on-grid-requires-2 c κs = search needs
+in-range-requires : tie.Need-in-range-requires
+in-range-requires c κs = search needs
 
 enum-known-self-2 : tie.Need-enum-known-self-2
 enum-known-self-2 c = search needs
 
-on-grid-requires-3 : tie.Need-on-grid-requires-3
-on-grid-requires-3 c κs = search needs
+in-range-requires-2 : tie.Need-in-range-requires-2
+in-range-requires-2 c κs = search needs
 
-on-grid-requires-4 : tie.Need-on-grid-requires-4
-on-grid-requires-4 c κs = search needs
-
-on-grid-requires-5 : tie.Need-on-grid-requires-5
-on-grid-requires-5 c κs = search needs
-
-on-grid-requires-6 : tie.Need-on-grid-requires-6
-on-grid-requires-6 c κs = search needs
+in-range-requires-3 : tie.Need-in-range-requires-3
+in-range-requires-3 c κs = search needs
 
 returns : tie.Need-returns
-unfolding shapeInRange
+unfolding shapeInRange pointInRange
 returns c =
-    let known = c .before .before .known-told .given in
-    simp (c .before .before .before .self .given .1, c .before .on-grid .ensures, c .on-grid2 .ensures, read-back, known .0 .1, known .1 .0 .1)
+    let known = c .before .known-told .given in
+    simp (c .before .before .self .given .1, c .in-range .ensures, read-back, known .0 .1, known .1 .0 .1)
 
 returns-2 : tie.Need-returns-2
-unfolding shapeInRange
+unfolding shapeInRange pointInRange
 returns-2 c =
-    let known = c .before .before .before .before .known-told2 .given in
-    simp (c .before .before .before .before .before .self2 .given .1, c .before .before .before .on-grid3 .ensures, c .before .before .on-grid4 .ensures, c .before .on-grid5 .ensures, c .on-grid6 .ensures, read-back, known .0 .1, known .1 .0 .1, known .1 .1 .0 .1, known .1 .1 .1 .0 .1)
+    let known = c .before .before .known-told2 .given in
+    simp (c .before .before .before .self2 .given .1, c .before .in-range2 .ensures, c .in-range3 .ensures, read-back, known .0 .1, known .1 .0 .1, known .1 .1 .0 .1, known .1 .1 .1 .0 .1)
 
 pub in-range-spec : {M : Type 1} → statement M
 in-range-spec =
     tie.close
     (tie.spec
     enum-known-self
-    on-grid-requires
-    on-grid-requires-2
+    in-range-requires
     enum-known-self-2
-    on-grid-requires-3
-    on-grid-requires-4
-    on-grid-requires-5
-    on-grid-requires-6
+    in-range-requires-2
+    in-range-requires-3
     returns
     returns-2)

@@ -8,8 +8,14 @@ use Rattle.calendar.proofs.terms.Term.in_range.Tie as tie
 enum-known-self : tie.Need-enum-known-self
 enum-known-self c = search needs
 
+cast-is-year : tie.Need-cast-is-year
+cast-is-year c = search needs
+
 is-year-requires : tie.Need-is-year-requires
 is-year-requires c κs = search needs
+
+cast-is-year-2 : tie.Need-cast-is-year-2
+cast-is-year-2 c = search needs
 
 is-year-requires-2 : tie.Need-is-year-requires-2
 is-year-requires-2 c κs = search needs
@@ -53,6 +59,9 @@ enum-known-self-5 c = search needs
 between-requires-7 : tie.Need-between-requires-7
 between-requires-7 c κs = search needs
 
+cast-is-year-3 : tie.Need-cast-is-year-3
+cast-is-year-3 c = search needs
+
 is-year-requires-3 : tie.Need-is-year-requires-3
 is-year-requires-3 c κs = search needs
 
@@ -88,7 +97,9 @@ in-range-spec =
     tie.close
     (tie.spec
     enum-known-self
+    cast-is-year
     is-year-requires
+    cast-is-year-2
     is-year-requires-2
     enum-known-self-2
     between-requires
@@ -103,6 +114,7 @@ in-range-spec =
     between-requires-6
     enum-known-self-5
     between-requires-7
+    cast-is-year-3
     is-year-requires-3
     returns
     returns-2
