@@ -15,14 +15,14 @@ use Rattle.rules.specs.Acceptance.{ruleOf}
 use Rattle.rules.specs.Families.{View, holds}
 use Rattle.rules.specs.declared.families.Rule.{Rule}
 use Rattle.rules.specs.declared.lists.Slot.{Slot}
-use Rattle.selection.specs.Lowest.{Lowest, unbroken, broken, lowest}
+use Rattle.steps.specs.declared.lowest.Lowest.{Lowest}
+use Rattle.steps.specs.declared.lowest.Lowest.the-variants.{Unbroken, BrokenAt}
+use Rattle.steps.specs.Lowest.{lowest}
 use Rattle.selection.specs.Selection.{selects, selectedNumber}
 use Rattle.selection.specs.Choices.{chosen}
-use Rattle.selection.specs.declared.actions.Action.{Action}
+use Rattle.steps.specs.declared.actions.Action.{Action}
 use Rattle.selection.specs.declared.selection.Choice.{Choice}
-use Rattle.selection.specs.Judging.{foundOf, judgedOf, orFound, visited}
-use Rattle.selection.specs.declared.judging.Found.{Found}
-use Rattle.selection.specs.declared.judging.Found.the-variants as found
+use Rattle.selection.specs.Judging.{judgedOf, orNext, visited}
 use Rattle.selection.specs.declared.judging.Judged.{Judged}
 
 -- the rules of the first n slots
@@ -36,20 +36,16 @@ rules-bounded slots n m long (inr past) = ap (map ruleOf) (take-all n slots (ome
 
 -- ---- one slot more
 
-abbrev orLowest : Lowest → Bool → ℕ → Lowest
-orLowest unbroken holds n = cond holds unbroken (broken n)
-orLowest (broken m) holds n = broken m
-
 module _ (test : Rule → Bool) where
-  lowest-more : (slots : List Slot) (k n : ℕ) (filler : Slot) → n < length slots → lowest test k (firstRules (suc n) slots) ≡ orLowest (lowest test k (firstRules n slots)) (test (ruleOf (getD slots n filler))) (k + n)
+  lowest-more : (slots : List Slot) (k n : ℕ) (filler : Slot) → n < length slots → lowest test k (firstRules (suc n) slots) ≡ orNext (lowest test k (firstRules n slots)) (test (ruleOf (getD slots n filler))) (k + n)
   unfolding lowest
   lowest-more [] k n filler l = absurd (omega arith)
   lowest-more (slot ∷ slots) k zero filler l = rw (add-zero k)
   lowest-more (slot ∷ slots) k (suc n) filler l = go (test (slot .rule)) (lowest-more slots (suc k) n filler (omega arith))
     where
-      go : (b : Bool) → lowest test (suc k) (firstRules (suc n) slots) ≡ orLowest (lowest test (suc k) (firstRules n slots)) (test (ruleOf (getD slots n filler))) (suc k + n) →
-          cond b (lowest test (suc k) (firstRules (suc n) slots)) (broken k) ≡ orLowest (cond b (lowest test (suc k) (firstRules n slots)) (broken k)) (test (ruleOf (getD slots n filler))) (k + suc n)
-      go true h = h ∙ ap (orLowest (lowest test (suc k) (firstRules n slots)) (test (ruleOf (getD slots n filler)))) (suc-add k n ∙ sym (add-suc k n))
+      go : (b : Bool) → lowest test (suc k) (firstRules (suc n) slots) ≡ orNext (lowest test (suc k) (firstRules n slots)) (test (ruleOf (getD slots n filler))) (suc k + n) →
+          cond b (lowest test (suc k) (firstRules (suc n) slots)) (BrokenAt k) ≡ orNext (cond b (lowest test (suc k) (firstRules n slots)) (BrokenAt k)) (test (ruleOf (getD slots n filler))) (k + suc n)
+      go true h = h ∙ ap (orNext (lowest test (suc k) (firstRules n slots)) (test (ruleOf (getD slots n filler)))) (suc-add k n ∙ sym (add-suc k n))
       go false h = refl
 
   pub number-more : (slots : List Slot) (n : ℕ) (filler : Slot) → n < length slots → selectedNumber test (firstRules (suc n) slots) ≡ selectedNumber test (firstRules n slots) + oneIf (test (ruleOf (getD slots n filler)))
@@ -71,21 +67,16 @@ number-le test (slot ∷ slots) (suc n) l = at-most (test (slot .rule)) (number-
 
 -- ---- the loop's turns
 
-abbrev judgement : Found → ℕ → Judged
-judgement lowestFound number = record { broken = lowestFound; selected = number }
-
-found-or : (low : Lowest) (holds : Bool) (n : ℕ) → orFound (foundOf low) holds n ≡ foundOf (orLowest low holds n)
-found-or unbroken true n = refl
-found-or unbroken false n = refl
-found-or (broken m) holds n = refl
+abbrev judgement : Lowest → ℕ → Judged
+judgement low number = record { broken = low; selected = number }
 
 -- a rule that is not selected changes nothing
-unless : (low : Lowest) (n : ℕ) → orLowest low true n ≡ low
-unless unbroken n = refl
-unless (broken m) n = refl
+unless : (low : Lowest) (n : ℕ) → orNext low true n ≡ low
+unless Unbroken n = refl
+unless (BrokenAt m) n = refl
 
 module _ (selected : Rule → Bool) (v : View) (slots : List Slot) where
-  pub judged-none : record { broken = found.Nothing; selected = 0 } ≡ judgedOf selected v (firstRules 0 slots)
+  pub judged-none : record { broken = Unbroken; selected = 0 } ≡ judgedOf selected v (firstRules 0 slots)
   unfolding judgedOf lowest selectedNumber
   judged-none = refl
 
@@ -98,18 +89,16 @@ module _ (selected : Rule → Bool) (v : View) (slots : List Slot) where
       (lowest-more (λ rule. not (selected rule) || holds rule v) slots 1 n filler l) (number-more selected slots n filler l)
     where
       by-selected : (b : Bool) →
-          lowest (λ rule. not (selected rule) || holds rule v) 1 (firstRules (suc n) slots) ≡ orLowest (lowest (λ rule. not (selected rule) || holds rule v) 1 (firstRules n slots)) (not b || holds (ruleOf (getD slots n filler)) v) (1 + n) →
+          lowest (λ rule. not (selected rule) || holds rule v) 1 (firstRules (suc n) slots) ≡ orNext (lowest (λ rule. not (selected rule) || holds rule v) 1 (firstRules n slots)) (not b || holds (ruleOf (getD slots n filler)) v) (1 + n) →
           selectedNumber selected (firstRules (suc n) slots) ≡ selectedNumber selected (firstRules n slots) + oneIf b →
           visited b (holds (ruleOf (getD slots n filler)) v) (judgedOf selected v (firstRules n slots)) (n + 1) ≡ judgedOf selected v (firstRules (n + 1) slots)
       by-selected true low number =
           ap₂ judgement
-          (found-or (lowest (λ rule. not (selected rule) || holds rule v) 1 (firstRules n slots)) (holds (ruleOf (getD slots n filler)) v) (n + 1)
-          ∙ ap (λ (k : ℕ). foundOf (orLowest (lowest (λ rule. not (selected rule) || holds rule v) 1 (firstRules n slots)) (holds (ruleOf (getD slots n filler)) v) k)) (add-comm n 1)
-          ∙ ap foundOf (sym low))
+          (ap (orNext (lowest (λ rule. not (selected rule) || holds rule v) 1 (firstRules n slots)) (holds (ruleOf (getD slots n filler)) v)) (add-comm n 1) ∙ sym low)
           (sym number)
           ∙ ap (λ (k : ℕ). judgedOf selected v (firstRules k slots)) (sym (add-one n))
       by-selected false low number =
-          ap₂ judgement (ap foundOf (sym (low ∙ unless (lowest (λ rule. not (selected rule) || holds rule v) 1 (firstRules n slots)) (1 + n)))) (sym (number ∙ add-zero (selectedNumber selected (firstRules n slots))))
+          ap₂ judgement (sym (low ∙ unless (lowest (λ rule. not (selected rule) || holds rule v) 1 (firstRules n slots)) (1 + n))) (sym (number ∙ add-zero (selectedNumber selected (firstRules n slots))))
           ∙ ap (λ (k : ℕ). judgedOf selected v (firstRules k slots)) (sym (add-one n))
 
   pub judged-small : (judged : Judged) (n : ℕ) → n ≤ length slots → judged ≡ judgedOf selected v (firstRules n slots) → judged .selected ≤ n
@@ -123,15 +112,15 @@ module _ (isSelected holds : Bool) (judged : Judged) (number : ℕ) where
   unfolding visited
   visited-unselected e = rw e
 
-  pub visited-after : (n : ℕ) → isSelected ≡ true → judged .broken ≡ found.Rule n → record { broken = judged .broken; selected = judged .selected + 1 } ≡ visited isSelected holds judged number
+  pub visited-after : (n : ℕ) → isSelected ≡ true → judged .broken ≡ BrokenAt n → record { broken = judged .broken; selected = judged .selected + 1 } ≡ visited isSelected holds judged number
   unfolding visited
   visited-after n e f = rw (e, f)
 
-  pub visited-kept : isSelected ≡ true → judged .broken ≡ found.Nothing → holds ≡ true → record { broken = found.Nothing; selected = judged .selected + 1 } ≡ visited isSelected holds judged number
+  pub visited-kept : isSelected ≡ true → judged .broken ≡ Unbroken → holds ≡ true → record { broken = Unbroken; selected = judged .selected + 1 } ≡ visited isSelected holds judged number
   unfolding visited
   visited-kept e f h = rw (e, f, h)
 
-  pub visited-broken : isSelected ≡ true → judged .broken ≡ found.Nothing → holds ≡ false → record { broken = found.Rule number; selected = judged .selected + 1 } ≡ visited isSelected holds judged number
+  pub visited-broken : isSelected ≡ true → judged .broken ≡ Unbroken → holds ≡ false → record { broken = BrokenAt number; selected = judged .selected + 1 } ≡ visited isSelected holds judged number
   unfolding visited
   visited-broken e f h = rw (e, f, h)
 

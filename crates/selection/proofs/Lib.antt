@@ -2,3 +2,5 @@ pub mod Choosing
 pub mod Judgement
 pub mod Parts
 pub mod Settling
+pub mod Table
+pub mod SelectedCount

@@ -4,20 +4,20 @@ use mathlib.Core.Path.{_≡_, refl, sym, ap, _∙_}
 use mathlib.Core.Bool.{Bool, true, false, not, cond, _&&_}
 use mathlib.Core.List.{List, [], _∷_}
 use Prim.Native.Nat.{ℕ, zero, suc, _+_, _^_, _<_}
-use native.Mathlib.Nat.{zero-add, le-refl}
+use native.Mathlib.Nat.{zero-add}
 use native.Mathlib.Omega.{arith}
 use native.Mathlib.Numerals.{add-one}
 use lib.Dec.{eqb, ltb}
 use lib.ListN.{length, take, drop, set}
 use lib.Seq.{take-all, take-suc, take-suc-set, drop-length, drop-cons, ext-getD}
 use borrow.Author.Tests.{eq-eqb, ne-eqb, ltb-true}
-use Rattle.sets.specs.Sets.{member, intersection, difference, subset, count, unionOf}
+use Rattle.sets.specs.Sets.{member, intersection, difference, subset, unionOf}
 use Rattle.sets.proofs.Booleans.{left-true, right-true}
 use Rattle.sets.proofs.Members.{member-intersection, member-difference}
 use Rattle.sets.proofs.Width.{equal-sets, member-below, within-lt}
 use Rattle.sets.proofs.Built.{member-set-of}
 use Rattle.rules.specs.Families.{wordAt, hasRole}
-use Rattle.selection.specs.Pairs.{endedPairs, pairCount, Part}
+use Rattle.steps.specs.Pairs.{pairCount, Part}
 use Rattle.selection.specs.Ending.{sifted, sameLists, settled, stayingRoles, lets, planRound}
 use Rattle.selection.proofs.Parts.{HasRoles, part-has-roles, has-sifted, length-sifted, round-fewer}
 
@@ -49,34 +49,6 @@ module _ (l m : List ℕ) (i : ℕ) where
     where
       drop-all : (k : List ℕ) → length k ≡ i → drop i k ≡ []
       drop-all k e = rw (← e) (drop-length k)
-
--- pairs that are counted from the start on
-count-suc : (l : List ℕ) (i : ℕ) → i < length l → pairCount (take (suc i) l) ≡ pairCount (take i l) + count 32 (member (wordAt l i))
-unfolding pairCount
-count-suc [] i within = absurd (omega arith)
-count-suc (roles ∷ l) zero within = omega arith
-count-suc (roles ∷ l) (suc i) within = rw (count-suc l i (omega arith)) (omega arith)
-
-length-ended : (l m : List ℕ) → length (endedPairs l m) ≡ length l
-unfolding endedPairs
-length-ended [] m = refl
-length-ended (roles ∷ l) [] = refl
-length-ended (roles ∷ l) (kept ∷ m) = ap suc (length-ended l m)
-
-ended-word : (l m : List ℕ) (i : ℕ) → i < length l → i < length m → wordAt (endedPairs l m) i ≡ difference (wordAt l i) (wordAt m i)
-unfolding endedPairs
-ended-word [] m i within below = absurd (omega arith)
-ended-word (roles ∷ l) [] i within below = absurd (omega arith)
-ended-word (roles ∷ l) (kept ∷ m) zero within below = refl
-ended-word (roles ∷ l) (kept ∷ m) (suc i) within below = ended-word l m i (omega arith) (omega arith)
-
-module _ (l m : List ℕ) where
-  pub ended-next : (i total n : ℕ) → i < length l → i < length m → total ≡ pairCount (take i (endedPairs l m)) → n ≡ count 32 (member (difference (wordAt l i) (wordAt m i))) → total + n ≡ pairCount (take (i + 1) (endedPairs l m))
-  ended-next i total n within below e here =
-      rw (add-one i, count-suc (endedPairs l m) i (rw (length-ended l m) within), ended-word l m i within below, e, here)
-
-  pub ended-all : (i : ℕ) → length l ≡ i → take i (endedPairs l m) ≡ endedPairs l m
-  ended-all i long = take-all i (endedPairs l m) (rw (length-ended l m, long) (le-refl i))
 
 -- ---- one round
 

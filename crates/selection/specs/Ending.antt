@@ -6,7 +6,7 @@ use mathlib.Core.List.{List, [], _∷_}
 use lib.Dec.{eqb}
 use Rattle.sets.specs.Sets.{member, subset, setOf, unionOf}
 use Rattle.rules.specs.Families.{wordAt, hasRole}
-use Rattle.selection.specs.Pairs.{pairCount}
+use Rattle.steps.specs.Pairs.{pairCount}
 
 -- ---- rounds
 

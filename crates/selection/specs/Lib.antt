@@ -1,6 +1,5 @@
-pub mod Lowest
-pub mod Pairs
 pub mod Selection
+pub mod Table
 pub mod Choices
 pub mod Judging
 pub mod Ending

@@ -3,11 +3,10 @@ ghost use mathlib.Core.Path.{_≡_};
 ghost use mathlib.Core.Logic.{_⊎_};
 ghost use Prim.Native.Nat.{_+_, _<_, _≤_};
 ghost use Rattle.rules.specs.Acceptance.{rulesOf};
-ghost use Rattle.rules.specs.Families.{view, holds};
+ghost use Rattle.rules.specs.Families.{holds};
 ghost use Rattle.selection.specs.Selection.{selects};
 ghost use Rattle.selection.specs.Choices.{chosen};
-ghost use Rattle.selection.specs.Judging.{judgedOf, visited};
-use crate::actions::Action;
+ghost use Rattle.selection.specs.Judging.{viewBy, judgedOf, visited};
 use crate::selection::Choice;
 use crate::selection::choice_of;
 use crate::selection::is_chosen;
@@ -15,15 +14,11 @@ use rules::Rule;
 use rules::RuleList;
 use rules::Session;
 use rules::Tested;
-
-// The lowest broken rule, if there is one.
-pub enum Found {
-    Nothing,
-    Rule(usize),
-}
+use steps::Action;
+use steps::Lowest;
 
 pub struct Judged {
-    pub broken: Found,
+    pub broken: Lowest,
     pub selected: usize,
 }
 
@@ -38,12 +33,12 @@ pub fn judge<'a>(
     history: &'a [u64; 1024],
     time: u64,
 ) -> Judged
-    ensures { λ r. ⌜ r ≡ judgedOf (selects action) (view (now (assigned .entry)) (now (assigned .entry)) (now (granted .entry)) sessions (now (active .entry)) (now (history .entry)) time) (rulesOf list) ⌝ }
+    ensures { λ r. ⌜ r ≡ judgedOf (selects action) (viewBy (now (assigned .entry)) (now (granted .entry)) sessions (now (active .entry)) (now (history .entry)) time) (rulesOf list) ⌝ }
 {
     let length = slots_in(list.length);
     let choice = choice_of(action);
     let mut judged = Judged {
-        broken: Found::Nothing,
+        broken: Lowest::Unbroken,
         selected: 0,
     };
     let mut i: usize = 0;
@@ -91,23 +86,23 @@ fn visit<'a>(
     time: u64,
 ) -> Judged
     requires { ⌜ judged .selected < 128 ⌝ }
-    ensures { λ r. ⌜ r ≡ visited (chosen choice rule) (holds rule (view (now (assigned .entry)) (now (assigned .entry)) (now (granted .entry)) sessions (now (active .entry)) (now (history .entry)) time)) judged number ⌝ }
+    ensures { λ r. ⌜ r ≡ visited (chosen choice rule) (holds rule (viewBy (now (assigned .entry)) (now (granted .entry)) sessions (now (active .entry)) (now (history .entry)) time)) judged number ⌝ }
 {
     if !is_chosen(choice, rule) {
         return judged;
     }
     let selected = judged.selected + 1;
     let broken = judged.broken;
-    let Found::Nothing = broken else {
+    let Lowest::Unbroken = broken else {
         return Judged { broken, selected };
     };
     match rule.test(assigned, assigned, granted, sessions, active, history, time) {
         Tested::Kept => Judged {
-            broken: Found::Nothing,
+            broken: Lowest::Unbroken,
             selected,
         },
         Tested::Broken(_) => Judged {
-            broken: Found::Rule(number),
+            broken: Lowest::BrokenAt(number),
             selected,
         },
     }

@@ -7,12 +7,12 @@ use rules::tests::active_somewhere;
 use sets::word32;
 
 // Rounds until nothing changes.
-pub fn settled(active: [u32; 32], out: [u32; 32], needs: [u32; 32], dead: u32) -> [u32; 32]
+pub fn plan_settled(active: [u32; 32], out: [u32; 32], needs: [u32; 32], dead: u32) -> [u32; 32]
     ensures { λ r. ⌜ r ≡ planSettled dead out needs active ⌝ }
 {
     let mut kept = active;
     loop {
-        let less = round(&kept, &out, &needs, dead);
+        let less = plan_round(&kept, &out, &needs, dead);
         if is_same(&kept, &less) {
             return kept;
         }
@@ -21,7 +21,7 @@ pub fn settled(active: [u32; 32], out: [u32; 32], needs: [u32; 32], dead: u32) -
 }
 
 // One round: each pair stays that the plan lets stay where these pairs are active.
-fn round<'a>(
+fn plan_round<'a>(
     active: &'a [u32; 32],
     out: &'a [u32; 32],
     needs: &'a [u32; 32],

@@ -3,9 +3,9 @@ ghost use mathlib.Core.Path.{_≡_};
 ghost use Rattle.rules.specs.declared.families.Rule.{Rule};
 ghost use Rattle.selection.specs.Selection.{family, first, second, selects};
 ghost use Rattle.selection.specs.Choices.{chosen, choiceOf};
-use crate::actions::Action;
 use rules::Rule;
 use sets::word32;
+use steps::Action;
 
 // Sets of one family each.
 const PREREQUISITE: u32 = 2;

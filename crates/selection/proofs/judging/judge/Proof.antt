@@ -7,7 +7,7 @@ use Prim.Native.Nat.{_≤_, _-_}
 use native.Mathlib.Omega.{arith}
 use lib.ListN.{length-map}
 use Rattle.rules.specs.Families.{view}
-use Rattle.selection.specs.Lowest.{lowest}
+use Rattle.steps.specs.Lowest.{lowest}
 use Rattle.selection.specs.Selection.{selectedNumber}
 use Rattle.selection.specs.Choices.{chosen}
 use Rattle.selection.specs.Judging.{judgedOf}

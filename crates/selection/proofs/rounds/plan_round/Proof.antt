@@ -1,4 +1,4 @@
--- `selection::rounds::round` meets its contract. The loop's invariant: the sets of the sessions passed are those that the round leaves.
+-- `selection::rounds::plan_round` meets its contract. The loop's invariant: the sets of the sessions passed are those that the round leaves.
 -- Assumes nothing.
 use mathlib.Core.Path.{_≡_, refl, _∙_}
 use Prim.Native.Nat.{ℕ, _≤_, _-_}
@@ -7,8 +7,8 @@ use lib.ListN.{length, take, length-replicate}
 use Rattle.selection.specs.Ending.{planRound}
 use Rattle.selection.proofs.Settling.{filled-next, filled-all, round-word, length-round}
 use borrow.Author.Needs.{needs}
-use Rattle.selection.proofs.rounds.round.Statement.{statement}
-use Rattle.selection.proofs.rounds.round.Tie as tie
+use Rattle.selection.proofs.rounds.plan_round.Statement.{statement}
+use Rattle.selection.proofs.rounds.plan_round.Tie as tie
 
 abbrev Inv-loop : tie.InvT-loop
 Inv-loop active out needs dead staying less₀ i₀ less i = (i ≤ 32) × (length less ≡ 32) × (take i less ≡ take i (planRound dead out needs active))
@@ -73,8 +73,8 @@ returns c =
     let end : now .i ≡ 32 = omega arith in
     filled-all _ _ 32 (now .inv .1) (length-round _ _ _ _ ∙ c .before .before .before .before .pre) (rw end at (now .inv .2))
 
-pub round-spec : {M : Type 1} → statement M
-round-spec =
+pub plan-round-spec : {M : Type 1} → statement M
+plan-round-spec =
     tie.close
     (tie.spec
     Inv-loop

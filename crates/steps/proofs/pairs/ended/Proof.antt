@@ -1,15 +1,15 @@
--- `selection::pairs::ended` meets its contract. The loop's invariant: the total is the number of pairs ended in the sessions passed, at most
+-- `steps::pairs::ended` meets its contract. The loop's invariant: the total is the number of pairs ended in the sessions passed, at most
 -- 32 each.
 -- Assumes nothing.
 use mathlib.Core.Path.{_≡_, refl, _∙_, ap}
 use Prim.Native.Nat.{_≤_, _*_, _-_}
 use native.Mathlib.Omega.{arith}
 use lib.ListN.{length, take}
-use Rattle.selection.specs.Pairs.{endedPairs, pairCount}
-use Rattle.selection.proofs.Settling.{ended-next, ended-all}
+use Rattle.steps.specs.Pairs.{endedPairs, pairCount}
+use Rattle.steps.proofs.EndedPairs.{ended-next, ended-all}
 use borrow.Author.Needs.{needs}
-use Rattle.selection.proofs.pairs.ended.Statement.{statement}
-use Rattle.selection.proofs.pairs.ended.Tie as tie
+use Rattle.steps.proofs.pairs.ended.Statement.{statement}
+use Rattle.steps.proofs.pairs.ended.Tie as tie
 
 abbrev Inv-loop : tie.InvT-loop
 Inv-loop before after total₀ i₀ total i = (i ≤ 32) × (total ≡ pairCount (take i (endedPairs before after))) × (total ≤ 32 * i)

@@ -1,8 +1,8 @@
 -- Lists of sets of roles, one for each session: their (session, role) pairs. Both gates share it.
 -- Assumes nothing.
-use Prim.Native.Nat.{ℕ, _+_, _≤_}
+use Prim.Native.Nat.{ℕ, _+_, _*_, _/_, _%_, _≤_}
 use mathlib.Core.Path.{_≡_}
-use mathlib.Core.Bool.{true}
+use mathlib.Core.Bool.{Bool, true}
 use mathlib.Core.List.{List, [], _∷_}
 use lib.ListN.{length}
 use Rattle.sets.specs.Sets.{member, difference, count}
@@ -10,20 +10,28 @@ use Rattle.rules.specs.Families.{hasRole}
 
 -- ---- "(session, role) pairs active before and not after"
 
--- session by session, the roles of one list that the other has not
+-- of one session, the roles active before and not after
+abbrev pub endedRoles : ℕ → ℕ → ℕ
+endedRoles before after = difference before after
+
+-- session by session
 unfoldable pub endedPairs : List ℕ → List ℕ → List ℕ
 endedPairs [] after = []
 endedPairs (roles ∷ before) [] = roles ∷ before
-endedPairs (roles ∷ before) (kept ∷ after) = difference roles kept ∷ endedPairs before after
+endedPairs (roles ∷ before) (kept ∷ after) = endedRoles roles kept ∷ endedPairs before after
 
 -- their number
 unfoldable pub pairCount : List ℕ → ℕ
 pairCount [] = 0
 pairCount (roles ∷ rest) = count 32 (member roles) + pairCount rest
 
+-- how many (session, role) pairs of the first sessions pass a test: number k stands for session k / 32 and role k % 32
+abbrev pub countPairs : ℕ → (ℕ → ℕ → Bool) → ℕ
+countPairs sessions test = count (sessions * 32) (λ k. test (k / 32) (k % 32))
+
 -- the number of roles of one set that the other has not
 pub record Fewer (before after n : ℕ) : Type 0 where
-  pub number : n ≡ count 32 (member (difference before after))
+  pub number : n ≡ count 32 (member (endedRoles before after))
   pub small : n ≤ 32
 
 -- ---- "a part is any choice of them"

@@ -1,12 +1,12 @@
--- `selection::pairs::fewer` meets its contract: the members are those that `difference` leaves.
+-- `steps::pairs::fewer` meets its contract: the members are those that `difference` leaves.
 -- Assumes nothing.
 use borrow.Author.Needs.{needs}
 use mathlib.Core.Path.{ap, _∙_}
 use Prim.Native.Nat.{ℕ}
 use Rattle.sets.specs.Sets.{member, count}
 use Rattle.sets.proofs.Counting.{count-le}
-use Rattle.selection.proofs.pairs.fewer.Statement.{statement}
-use Rattle.selection.proofs.pairs.fewer.Tie as tie
+use Rattle.steps.proofs.pairs.fewer.Statement.{statement}
+use Rattle.steps.proofs.pairs.fewer.Tie as tie
 
 difference-requires : tie.Need-difference-requires
 difference-requires c κs = search needs

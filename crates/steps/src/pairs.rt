@@ -1,6 +1,6 @@
 // How many pairs are active before and not after.
 ghost use mathlib.Core.Path.{_≡_};
-ghost use Rattle.selection.specs.Pairs.{endedPairs, pairCount, Fewer};
+ghost use Rattle.steps.specs.Pairs.{endedPairs, pairCount, Fewer};
 use sets::word32;
 
 // The pairs active before and not after.

@@ -1,0 +1,3 @@
+pub mod EndedPairs
+pub mod PairCounts
+pub mod AnswerWords
