@@ -1,12 +1,11 @@
--- Demand 3: over every list of steps from a fresh state our gate gives what the plain gate gives; all rules hold after every step; and
--- what an event leaves is the largest part. From any state that 40 does not refuse, the same with the selected rules alone.
+-- Demand 3: over every list of steps from a fresh state our gate gives what the plain gate gives, and all rules hold after every step. From
+-- any state that 40 does not refuse, the same with the selected rules alone.
 -- Assumes nothing.
 use mathlib.Core.Path.{_≡_, refl, sym, ap, ap₂, _∙_, subst}
-use mathlib.Core.Bool.{Bool, true, false, not, cond, _&&_, _||_, true≢false, and-not-self}
+use mathlib.Core.Bool.{Bool, true, false, not, cond, _&&_, _||_, and-not-self}
 use mathlib.Core.Logic.{_↔_}
 use mathlib.Core.List.{List, [], _∷_}
 use Prim.Native.Nat.{ℕ, suc, _+_}
-use native.Mathlib.Omega.{arith}
 use Rattle.sets.specs.Sets.{member, difference, count}
 use Rattle.sets.proofs.Members.{member-difference}
 use Rattle.sets.proofs.Counting.{count-none}
@@ -15,20 +14,25 @@ use Rattle.rules.specs.Acceptance.{every, rulesOf, listAccepted}
 use Rattle.rules.proofs.Every.{every-both, every-all}
 use Rattle.rules.specs.declared.families.Rule.{Rule}
 use Rattle.rules.specs.declared.lists.RuleList.{RuleList}
-use Rattle.selection.specs.Lowest.{Lowest, unbroken, broken, lowest}
-use Rattle.selection.specs.Pairs.{endedPairs, pairCount, Part}
-use Rattle.selection.specs.Selection.{selects}
-use Rattle.selection.specs.declared.actions.Action.{Action}
-use Rattle.enforcement.specs.States.{fresh, ruleHolds}
-use Rattle.enforcement.specs.Steps.{actionOf, Checked, passes, refuses, check, target, withActive, isEvent}
+use Rattle.steps.specs.declared.lowest.Lowest.{Lowest}
+use Rattle.steps.specs.declared.lowest.Lowest.the-variants.{Unbroken, BrokenAt}
+use Rattle.steps.specs.Lowest.{lowest}
+use Rattle.steps.specs.Pairs.{endedPairs, pairCount, Part}
+use Rattle.selection.specs.Selection.{selects, selectedNumber}
+use Rattle.steps.specs.declared.actions.Action.{Action}
+use Rattle.enforcement.specs.States.{fresh, ruleHolds, stateAccepted}
+use Rattle.steps.specs.Steps.{actionOf, isEvent}
+use Rattle.enforcement.specs.Steps.{Checked, passes, refuses, check, target, withActive}
 use Rattle.enforcement.specs.Decisions.{Largest, granted, refused, Verdict}
 use Rattle.enforcement.specs.Plain.{obeys, lowestBroken, verdict, Plain, refusing, breaking, taking, ending, PlainRun, done, next, plainRequest, plainPassed, plainChecked, plainStep, plainRun}
-use Rattle.enforcement.specs.Gate.{testsSelected, remaining, grantedNext, requestNext, passedNext, checkedNext, decide, stepOf, runOf, compared, comparedRun, decisionOf}
+use Rattle.enforcement.specs.Gate.{testsSelected, grantedNext, requestNext, passedNext, checkedNext, decide, stepOf, runOf, compared, comparedRun}
+use Rattle.enforcement.specs.Rounds.{remaining}
 use Rattle.enforcement.specs.Narrow as narrow
 use Rattle.enforcement.specs.Reached.{Typed, Accepted}
+use Rattle.enforcement.specs.Claims.{Along, end, then}
 use Rattle.enforcement.specs.declared.states.State.{State}
-use Rattle.enforcement.specs.declared.steps.Step.{Step}
-use Rattle.enforcement.specs.declared.steps.Next.{Next}
+use Rattle.steps.specs.declared.steps.Step.{Step}
+use Rattle.enforcement.specs.declared.states.Next.{Next}
 use Rattle.enforcement.proofs.Ranges.{Ranged, action-ranged}
 use Rattle.enforcement.proofs.Frame.{frame, frame-part}
 use Rattle.enforcement.proofs.Ending.{largest-unique, remaining-largest}
@@ -43,14 +47,14 @@ unfolding every lowest
 lowest-same given p q f n [] e = refl
 lowest-same given p q f n (rule ∷ rules) e =
     let x = both (given rule) (every given rules) e in
-    ap₂ (λ (b : Bool) (rest : Lowest). cond b rest (broken n)) (f rule (x .0)) (lowest-same given p q f (suc n) rules (x .1))
+    ap₂ (λ (b : Bool) (rest : Lowest). cond b rest (BrokenAt n)) (f rule (x .0)) (lowest-same given p q f (suc n) rules (x .1))
 
-pub lowest-none : (test : Rule → Bool) (n : ℕ) (rules : List Rule) → lowest test n rules ≡ unbroken → every test rules ≡ true
+pub lowest-none : (test : Rule → Bool) (n : ℕ) (rules : List Rule) → lowest test n rules ≡ Unbroken → every test rules ≡ true
 unfolding every lowest
 lowest-none test n [] e = refl
 lowest-none test n (rule ∷ rules) e = go (test rule) e (lowest-none test (suc n) rules)
   where
-    go : (b : Bool) → cond b (lowest test (suc n) rules) (broken n) ≡ unbroken → (lowest test (suc n) rules ≡ unbroken → every test rules ≡ true) → (b && every test rules) ≡ true
+    go : (b : Bool) → cond b (lowest test (suc n) rules) (BrokenAt n) ≡ Unbroken → (lowest test (suc n) rules ≡ Unbroken → every test rules ≡ true) → (b && every test rules) ≡ true
     go true h f = f h
     go false h f = cc
 
@@ -116,8 +120,8 @@ module _ (rules : List Rule) (s : State) (accepted : Accepted s) (obeyed : obeys
 
   by-lowest : isEvent action ≡ false → (low : Lowest) → lowestBroken rules (target s action) ≡ low → (n : ℕ) → Plain rules s action (compared s (requestNext n s (target s action) low))
   unfolding requestNext
-  by-lowest event unbroken e n = taking pass event e
-  by-lowest event (broken rule) e n = subst (Plain rules s action) (refusal-verdict s 30 rule) (breaking rule pass event e)
+  by-lowest event Unbroken e n = taking pass event e
+  by-lowest event (BrokenAt rule) e n = subst (Plain rules s action) (refusal-verdict s 30 rule) (breaking rule pass event e)
 
   by-event : (event : Bool) → isEvent action ≡ event → Plain rules s action (compared s (passedNext event rules s action))
   unfolding passedNext
@@ -166,23 +170,13 @@ plain-keeps rules s action v accepted ranged obeyed (ending l e event largest) =
 
 -- ---- a whole list of steps
 
--- a statement of the state before each step, the step and what it gave
-pub data Along (Says : State → Step → Next → Type 0) : State → List Step → List Next → Type 0 where
-  end : {s : State} → Along Says s [] []
-  then : {s : State} {step : Step} {steps : List Step} {given : Next} {rest : List Next} → Says s step given → Along Says (given .state) steps rest → Along Says s (step ∷ steps) (given ∷ rest)
-
--- after a granted event the active pairs are the largest part of the target's under which every rule holds
-abbrev pub LeavesLargest : List Rule → State → Step → Next → Type 0
-LeavesLargest rules s step given =
-    isEvent (actionOf step) ≡ true → decisionOf (given .answer) ≡ granted → Largest (obeys rules) (target s (actionOf step)) (given .state .active)
-
 module _ (list : RuleList) (listed : listAccepted list ≡ true) where
   -- an accepted state is not refused by 40, so the step is decided
   decided : (s : State) → Accepted s → (step : Step) → stepOf list s step ≡ decide (rulesOf list) s (actionOf step)
   unfolding stepOf
   decided s accepted step = rw (listed, accepted .unrefused)
 
-  step-plain : (s : State) → Accepted s → obeys (rulesOf list) s ≡ true → (step : Step) → Plain (rulesOf list) s (actionOf step) (compared s (stepOf list s step))
+  pub step-plain : (s : State) → Accepted s → obeys (rulesOf list) s ≡ true → (step : Step) → Plain (rulesOf list) s (actionOf step) (compared s (stepOf list s step))
   step-plain s accepted obeyed step =
       rw (decided s accepted step) (step-is-plain (rulesOf list) s accepted obeyed (actionOf step) (action-ranged step))
 
@@ -220,26 +214,14 @@ module _ (list : RuleList) (listed : listAccepted list ≡ true) where
       let kept = plain-keeps (rulesOf list) s (actionOf step) v accepted (action-ranged step) obeyed here in
       ap₂ _∷_ same (ap (λ (w : Verdict). plainRun (rulesOf list) (w .state) steps) same ∙ plain-is-function steps (v .state) rest (kept .0) (kept .1) later)
 
-  obeying : (steps : List Step) (s : State) → Accepted s → obeys (rulesOf list) s ≡ true → Along (λ s step given. obeys (rulesOf list) (given .state) ≡ true) s steps (runOf list s steps)
+  -- what holds of a step from every state that 40 does not refuse and that obeys the rules holds along the run
+  pub along-run : (Says : State → Step → Next → Type 0) → ((s : State) → Accepted s → obeys (rulesOf list) s ≡ true → (step : Step) → Says s step (stepOf list s step)) →
+      (steps : List Step) (s : State) → Accepted s → obeys (rulesOf list) s ≡ true → Along Says s steps (runOf list s steps)
   unfolding runOf
-  obeying [] s accepted obeyed = end
-  obeying (step ∷ steps) s accepted obeyed =
+  along-run Says each [] s accepted obeyed = end
+  along-run Says each (step ∷ steps) s accepted obeyed =
       let kept = step-keeps s accepted obeyed step in
-      then (kept .1) (obeying steps (stepOf list s step .state) (kept .0) (kept .1))
-
-  -- a granted event was decided by the largest part
-  leaves-largest : (s : State) (step : Step) (v : Verdict) → Plain (rulesOf list) s (actionOf step) v → isEvent (actionOf step) ≡ true → v .decision ≡ granted → Largest (obeys (rulesOf list)) (target s (actionOf step)) (v .state .active)
-  leaves-largest s step v (refusing number e) event grants = absurd (let clash : _≡_ {A = ℕ} 0 1 = cc in omega arith)
-  leaves-largest s step v (breaking rule e request low) event grants = absurd (true≢false (sym event ∙ request))
-  leaves-largest s step v (taking e request low) event grants = absurd (true≢false (sym event ∙ request))
-  leaves-largest s step v (ending l e ev largest) event grants = largest
-
-  leaving : (steps : List Step) (s : State) → Accepted s → obeys (rulesOf list) s ≡ true → Along (LeavesLargest (rulesOf list)) s steps (runOf list s steps)
-  unfolding runOf
-  leaving [] s accepted obeyed = end
-  leaving (step ∷ steps) s accepted obeyed =
-      let kept = step-keeps s accepted obeyed step in
-      then (leaves-largest s step (compared s (stepOf list s step)) (step-plain s accepted obeyed step)) (leaving steps (stepOf list s step .state) (kept .0) (kept .1))
+      then (each s accepted obeyed step) (along-run Says each steps (stepOf list s step .state) (kept .0) (kept .1))
 
 pub all-hold-fresh : (rules : List Rule) → obeys rules fresh ≡ true
 all-hold-fresh rules = every-all (λ rule. ruleHolds rule fresh) fresh-obeys rules
@@ -261,13 +243,19 @@ module _ (list : RuleList) (listed : listAccepted list ≡ true) (steps : List S
   agreement-only verdicts plain =
       sym (plain-is-function list listed steps fresh verdicts fresh-accepted (all-hold-fresh (rulesOf list)) plain) ∙ agreement
 
+  -- and what the plain gate's function runs through is that run
+  pub function-relation : PlainRun (rulesOf list) fresh steps (plainRun (rulesOf list) fresh steps)
+  function-relation = rw agreement agreement-relation
+
   -- "All rules hold after every step."
   pub rules-hold : Along (λ s step given. obeys (rulesOf list) (given .state) ≡ true) fresh steps (runOf list fresh steps)
-  rules-hold = obeying list listed steps fresh fresh-accepted (all-hold-fresh (rulesOf list))
+  rules-hold =
+      along-run list listed (λ s step given. obeys (rulesOf list) (given .state) ≡ true) (λ s accepted obeyed step. step-keeps list listed s accepted obeyed step .1)
+      steps fresh fresh-accepted (all-hold-fresh (rulesOf list))
 
-  -- "After an event the roles still active are the largest part under which all rules hold."
-  pub largest-part : Along (LeavesLargest (rulesOf list)) fresh steps (runOf list fresh steps)
-  largest-part = leaving list listed steps fresh fresh-accepted (all-hold-fresh (rulesOf list))
+  pub along-fresh : (Says : State → Step → Next → Type 0) → ((s : State) → Accepted s → obeys (rulesOf list) s ≡ true → (step : Step) → Says s step (stepOf list s step)) →
+      Along Says fresh steps (runOf list fresh steps)
+  along-fresh Says each = along-run list listed Says each steps fresh fresh-accepted (all-hold-fresh (rulesOf list))
 
 -- ---- any state that 40 does not refuse, also one that breaks rules
 
@@ -275,10 +263,10 @@ module _ (rules : List Rule) (s : State) (accepted : Accepted s) (action : Actio
   remaining-selected : check s action ≡ passes → isEvent action ≡ true → Largest (narrow.obeysSelected rules action) (target s action) (remaining (selects action) rules (target s action))
   remaining-selected pass event = remaining-largest action event rules (target s action) (accepted-target action s accepted ranged pass .typed)
 
-  narrow-by-lowest : check s action ≡ passes → isEvent action ≡ false → (low : Lowest) → narrow.lowestSelected rules action (target s action) ≡ low → narrow.Narrow rules s action (requestNext (narrow.numberOf rules action) s (target s action) low)
+  narrow-by-lowest : check s action ≡ passes → isEvent action ≡ false → (low : Lowest) → narrow.lowestSelected rules action (target s action) ≡ low → narrow.Narrow rules s action (requestNext (selectedNumber (selects action) rules) s (target s action) low)
   unfolding requestNext
-  narrow-by-lowest pass event unbroken e = narrow.taking pass event e
-  narrow-by-lowest pass event (broken rule) e = narrow.breaking rule pass event e
+  narrow-by-lowest pass event Unbroken e = narrow.taking pass event e
+  narrow-by-lowest pass event (BrokenAt rule) e = narrow.breaking rule pass event e
 
   narrow-by-event : check s action ≡ passes → (event : Bool) → isEvent action ≡ event → narrow.Narrow rules s action (passedNext event rules s action)
   unfolding passedNext
@@ -294,24 +282,33 @@ module _ (rules : List Rule) (s : State) (accepted : Accepted s) (action : Actio
   unfolding decide
   step-narrow = narrow-by-check (check s action) refl
 
-  narrow-step : (given : Next) → narrow.Narrow rules s action given → given ≡ decide rules s action
+  narrow-decided : (given : Next) → narrow.Narrow rules s action given → given ≡ decide rules s action
   unfolding decide checkedNext passedNext requestNext
-  narrow-step given (narrow.refusing number e) = sym (ap (λ (c : Checked). checkedNext c rules s action) e)
-  narrow-step given (narrow.breaking rule e event low) =
+  narrow-decided given (narrow.refusing number e) = sym (ap (λ (c : Checked). checkedNext c rules s action) e)
+  narrow-decided given (narrow.breaking rule e event low) =
       sym (ap (λ (c : Checked). checkedNext c rules s action) e
       ∙ ap (λ (b : Bool). passedNext b rules s action) event
-      ∙ ap (requestNext (narrow.numberOf rules action) s (target s action)) low)
-  narrow-step given (narrow.taking e event low) =
+      ∙ ap (requestNext (selectedNumber (selects action) rules) s (target s action)) low)
+  narrow-decided given (narrow.taking e event low) =
       sym (ap (λ (c : Checked). checkedNext c rules s action) e
       ∙ ap (λ (b : Bool). passedNext b rules s action) event
-      ∙ ap (requestNext (narrow.numberOf rules action) s (target s action)) low)
-  narrow-step given (narrow.ending l e event largest) =
-      ap (λ (m : List ℕ). grantedNext (narrow.numberOf rules action) s (withActive (target s action) m)) (largest-unique largest (remaining-selected e event))
+      ∙ ap (requestNext (selectedNumber (selects action) rules) s (target s action)) low)
+  narrow-decided given (narrow.ending l e event largest) =
+      ap (λ (m : List ℕ). grantedNext (selectedNumber (selects action) rules) s (withActive (target s action) m)) (largest-unique largest (remaining-selected e event))
       ∙ sym (ap (λ (c : Checked). checkedNext c rules s action) e ∙ ap (λ (b : Bool). passedNext b rules s action) event)
 
 -- from a state that 40 does not refuse, a step gives what document 01 says with the selected rules alone, and nothing else
 pub selected-only : (list : RuleList) → listAccepted list ≡ true → (s : State) → Accepted s → (step : Step) (given : Next) → (given ≡ stepOf list s step) ↔ narrow.Narrow (rulesOf list) s (actionOf step) given
 selected-only list listed s accepted step given = (
   λ e. subst (narrow.Narrow (rulesOf list) s (actionOf step)) (sym (e ∙ decided list listed s accepted step)) (step-narrow (rulesOf list) s accepted (actionOf step) (action-ranged step)),
-  λ h. narrow-step (rulesOf list) s accepted (actionOf step) (action-ranged step) given h ∙ sym (decided list listed s accepted step),
+  λ h. narrow-decided (rulesOf list) s accepted (actionOf step) (action-ranged step) given h ∙ sym (decided list listed s accepted step),
 )
+
+-- the same of the step alone, where the list is accepted and 40 does not refuse the state
+module _ (list : RuleList) (s : State) (step : Step) (typed : Typed s) (listed : listAccepted list ≡ true) (unrefused : stateAccepted s ≡ true) where
+  pub narrow-step : narrow.Narrow (rulesOf list) s (actionOf step) (stepOf list s step)
+  narrow-step = selected-only list listed s (record { typed = typed; unrefused = unrefused }) step (stepOf list s step) .0 refl
+
+  -- and document 01 allows nothing else
+  pub narrow-only : (given : Next) → narrow.Narrow (rulesOf list) s (actionOf step) given → given ≡ stepOf list s step
+  narrow-only given = selected-only list listed s (record { typed = typed; unrefused = unrefused }) step given .1

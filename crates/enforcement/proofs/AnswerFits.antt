@@ -15,18 +15,22 @@ use Rattle.rules.specs.Families.{isActiveFor}
 use Rattle.rules.specs.declared.families.Rule.{Rule}
 use Rattle.rules.specs.declared.lists.RuleList.{RuleList}
 use Rattle.rules.specs.declared.lists.Slot.{Slot}
-use Rattle.selection.specs.Lowest.{Lowest, unbroken, broken, lowest}
-use Rattle.selection.specs.Pairs.{endedPairs, pairCount}
+use Rattle.steps.specs.declared.lowest.Lowest.{Lowest}
+use Rattle.steps.specs.declared.lowest.Lowest.the-variants.{Unbroken, BrokenAt}
+use Rattle.steps.specs.Lowest.{lowest}
+use Rattle.steps.specs.Pairs.{endedPairs, pairCount}
 use Rattle.selection.specs.Selection.{selects, selectedNumber}
-use Rattle.selection.specs.declared.actions.Action.{Action}
-use Rattle.selection.specs.declared.actions.Action.the-variants.{Malformed, Assign, Withdraw, Grant, Take, Open, Activate, Deactivate, Access, Finish, Close, Move, Lost, Clock}
+use Rattle.steps.specs.declared.actions.Action.{Action}
+use Rattle.steps.specs.declared.actions.Action.the-variants.{Malformed, Assign, Withdraw, Grant, Take, Open, Activate, Deactivate, Access, Finish, Close, Move, Lost, Clock}
 use Rattle.enforcement.specs.States.{holdsRole, assignedRole, carries, isOpen, userOf, activeRole, stateAccepted}
-use Rattle.enforcement.specs.Steps.{Checked, passes, refuses, refuseIf, check, target, isEvent, actionOf}
-use Rattle.enforcement.specs.Gate.{testsSelected, remaining, requestNext, passedNext, checkedNext, decide, stepOf}
-use Rattle.enforcement.specs.Words.{wordOf, answerOf}
+use Rattle.steps.specs.Steps.{isEvent, actionOf}
+use Rattle.enforcement.specs.Steps.{Checked, passes, refuses, refuseIf, check, target}
+use Rattle.enforcement.specs.Gate.{testsSelected, requestNext, passedNext, checkedNext, decide, stepOf}
+use Rattle.enforcement.specs.Rounds.{remaining}
+use Rattle.steps.specs.Answers.{wordOf, answerOf, Fits}
 use Rattle.enforcement.specs.declared.states.State.{State}
-use Rattle.enforcement.specs.declared.steps.Step.{Step}
-use Rattle.enforcement.proofs.AnswerWords.{Fits, word-back}
+use Rattle.steps.specs.declared.steps.Step.{Step}
+use Rattle.steps.proofs.AnswerWords.{word-back}
 use Rattle.enforcement.proofs.Answering.{accepted-length}
 
 -- ---- the numbers of the checks
@@ -69,15 +73,15 @@ number-small selected (rule ∷ rules) = one-more (selected rule) (number-small 
 
 -- the rule that a search finds is one of the list
 abbrev Below : ℕ → Lowest → Type 0
-Below n unbroken = Unit {0}
-Below n (broken rule) = rule < n
+Below n Unbroken = Unit {0}
+Below n (BrokenAt rule) = rule < n
 
 lowest-small : (test : Rule → Bool) (n k : ℕ) (rules : List Rule) → n + length rules ≤ k → Below k (lowest test n rules)
 unfolding lowest
 lowest-small test n k [] l = tt
 lowest-small test n k (rule ∷ rules) l = here (test rule) (lowest-small test (suc n) k rules (omega arith))
   where
-    here : (b : Bool) → Below k (lowest test (suc n) rules) → Below k (cond b (lowest test (suc n) rules) (broken n))
+    here : (b : Bool) → Below k (lowest test (suc n) rules) → Below k (cond b (lowest test (suc n) rules) (BrokenAt n))
     here true later = later
     here false later = omega arith
 
@@ -107,8 +111,8 @@ module _ (rules : List Rule) (s : State) (few : length rules ≤ 128) (sessions 
 
   request-fits : (selected : Rule → Bool) (after : State) (found : Lowest) → Below 256 found → Fits (requestNext (selectedNumber selected rules) s after found .answer)
   unfolding requestNext
-  request-fits selected after unbroken small = granted-fits selected (after .active)
-  request-fits selected after (broken rule) small = let number = number-small selected rules in (small, omega arith)
+  request-fits selected after Unbroken small = granted-fits selected (after .active)
+  request-fits selected after (BrokenAt rule) small = let number = number-small selected rules in (small, omega arith)
 
   passed-fits : (action : Action) (event : Bool) → Fits (passedNext event rules s action .answer)
   unfolding passedNext

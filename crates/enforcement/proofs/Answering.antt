@@ -3,13 +3,9 @@
 use mathlib.Core.Path.{_≡_, refl, sym, ap, ap₂, _∙_, subst}
 use mathlib.Core.Bool.{Bool, true, false, not, cond, _&&_, _||_}
 use mathlib.Core.List.{List, [], _∷_}
-use Prim.Native.Nat.{ℕ, suc, _≤_, _<_}
-use native.Mathlib.Omega.{arith}
+use Prim.Native.Nat.{ℕ, suc, _≤_}
 use lib.Dec.{leb}
 use lib.ListN.{set}
-use lib.Seq.{set-getD}
-use Rattle.rules.specs.Families.{closedSession}
-use Rattle.rules.specs.declared.sessions.Session.{Session}
 use borrow.Author.Tests.{leb-true}
 use Rattle.sets.proofs.Booleans.{both}
 use Rattle.places.specs.declared.Point.{Point}
@@ -19,22 +15,22 @@ use Rattle.rules.specs.Acceptance.{every, ruleAccepted, rulesOf, listAccepted}
 use Rattle.rules.specs.declared.families.Rule.{Rule}
 use Rattle.rules.specs.declared.families.Rule.the-variants.{Prerequisite, MaxUsers, MaxRoles, MaxPermissions, MaxActive, StaticSeparation, DynamicSeparation, Dependency, TimeContext, LocationContext, HistorySeparation, BindingOfDuty}
 use Rattle.rules.specs.declared.lists.RuleList.{RuleList}
-use Rattle.selection.specs.Pairs.{endedPairs, pairCount}
+use Rattle.steps.specs.Pairs.{endedPairs, pairCount}
 use Rattle.selection.specs.Selection.{selects, selectedNumber}
-use Rattle.selection.specs.declared.actions.Action.{Action}
-use Rattle.selection.specs.declared.actions.Action.the-variants.{Move, Lost}
+use Rattle.steps.specs.declared.actions.Action.{Action}
+use Rattle.steps.specs.declared.actions.Action.the-variants.{Move, Lost}
 use Rattle.enforcement.specs.States.{isOpen, userOf, stateAccepted}
-use Rattle.enforcement.specs.Steps.{passes, refuseIf, check, target, actionOf, withActive, withSessions, session, placed}
-use Rattle.enforcement.specs.Gate.{keeps, stays, round, remaining, refusedNext, passedNext, checkedNext, decide, stepOf}
-use Rattle.enforcement.specs.Deciding.{context, leftOf, stateFrom, answered, configurationOf, stateOf, nextOf, keptEffect, effectNext, eventOf, placedOf}
+use Rattle.steps.specs.Steps.{actionOf}
+use Rattle.enforcement.specs.Steps.{passes, refuseIf, check, target, withActive, withSessions, session, placed}
+use Rattle.enforcement.specs.Gate.{refusedNext, passedNext, checkedNext, decide, stepOf}
+use Rattle.enforcement.specs.Rounds.{keeps, stays, round, remaining}
+use Rattle.enforcement.specs.Deciding.{context, leftOf, configurationOf, stateWith, nextOf, eventOf, placedOf}
 use Rattle.enforcement.specs.declared.configurations.Configuration.{Configuration}
 use Rattle.enforcement.specs.declared.configurations.NextConfiguration.{NextConfiguration}
-use Rattle.enforcement.specs.declared.kinds.Effect.{Effect}
-use Rattle.enforcement.specs.declared.steps.Answer.{Answer}
 use Rattle.enforcement.specs.declared.states.State.{State}
-use Rattle.enforcement.specs.declared.steps.Step.{Step}
-use Rattle.enforcement.specs.declared.steps.Answer.the-variants.{Granted, Refused}
-use Rattle.enforcement.specs.declared.steps.Next.{Next}
+use Rattle.steps.specs.declared.steps.Step.{Step}
+use Rattle.steps.specs.declared.answers.Answer.the-variants.{Granted, Refused}
+use Rattle.enforcement.specs.declared.states.Next.{Next}
 use Rattle.enforcement.specs.declared.events.Left.{Left}
 use Rattle.enforcement.proofs.Ranges.{Ranged, action-ranged}
 use Rattle.selection.proofs.Settling.{settled-same, sifted-same}
@@ -102,19 +98,6 @@ module _ (rules : List Rule) (s : State) (i : ℕ) where
       go true = refl
       go false = refl
 
--- ---- a step that leaves sessions and time as they were
-
-module _ (sessions : List Session) (time : ℕ) (answer : Answer) (effect : Effect) (is : effect ≡ keptEffect sessions time answer) where
-  pub kept-next : (assigned granted active history : List ℕ) → effectNext effect assigned granted sessions active history ≡ answered (stateFrom time assigned granted sessions active history) answer
-  unfolding keptEffect
-  kept-next assigned granted active history =
-      ap (λ (e : Effect). effectNext e assigned granted sessions active history) is
-      ∙ ap (λ (l : List Session). answered (stateFrom time assigned granted l active history) answer) (set-getD sessions 0 closedSession)
-
-  pub kept-session : effect .session < 32
-  unfolding keptEffect
-  kept-session = rw (is) (omega arith)
-
 -- ---- a step by the action that is read of it
 
 module _ (step : Step) (asked action : Action) (read : asked ≡ actionOf step) (told : asked ≡ action) where
@@ -137,10 +120,10 @@ module _ (list : RuleList) (s : State) (step : Step) where
 
   -- from a state that was taken apart, and put together again
   pub step-parts : (c : Configuration) (next : NextConfiguration) (history : List ℕ) (after : State)
-      → (listAccepted list && stateAccepted s) ≡ true → c ≡ configurationOf s → nextOf next history ≡ decide (rulesOf list) (stateOf c (s .history)) (actionOf step) → after ≡ stateOf (next .configuration) history
-      → answered after (next .answer) ≡ stepOf list s step
+      → (listAccepted list && stateAccepted s) ≡ true → c ≡ configurationOf s → nextOf next history ≡ decide (rulesOf list) (stateWith c (s .history)) (actionOf step) → after ≡ stateWith (next .configuration) history
+      → _≡_ {A = Next} (record { state = after; answer = next .answer }) (stepOf list s step)
   step-parts c next history after accepted apart decided together =
-      ap (λ (x : State). answered x (next .answer)) together ∙ decided ∙ ap (λ (x : Configuration). decide (rulesOf list) (stateOf x (s .history)) (actionOf step)) apart ∙ step-accepted accepted
+      ap (λ (x : State). record { state = x; answer = next .answer }) together ∙ decided ∙ ap (λ (x : Configuration). decide (rulesOf list) (stateWith x (s .history)) (actionOf step)) apart ∙ step-accepted accepted
 
 pub accepted-length : (list : RuleList) → listAccepted list ≡ true → list .length ≤ 128
 unfolding listAccepted

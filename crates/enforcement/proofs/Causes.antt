@@ -23,21 +23,27 @@ use Rattle.places.specs.declared.Position.the-variants.{Unknown, Known}
 use Rattle.rules.specs.Acceptance.{rulesOf, listAccepted}
 use Rattle.rules.specs.Families.{wordAt, sessionAt, isActiveFor}
 use Rattle.rules.specs.declared.families.Rule.{Rule}
+use Rattle.rules.specs.declared.families.Rule.the-variants.{MaxRoles}
 use Rattle.rules.specs.declared.lists.RuleList.{RuleList}
-use Rattle.selection.specs.Lowest.{Lowest, unbroken, broken, lowest}
-use Rattle.selection.specs.Selection.{selects}
-use Rattle.selection.specs.declared.actions.Action.{Action}
-use Rattle.selection.specs.declared.actions.Action.the-variants.{Malformed, Assign, Withdraw, Grant, Take, Open, Activate, Deactivate, Access, Finish, Close, Move, Lost, Clock}
-use Rattle.enforcement.specs.States.{assignedRole, holdsRole, carries, isOpen, userOf, positionOf, activeRole, isUnknown, isTime, sessionAccepted, stateAccepted}
-use Rattle.enforcement.specs.Steps.{ranged, actionOf, Checked, passes, refuses, refuseIf, check, target, isEvent}
+use Rattle.steps.specs.declared.lowest.Lowest.{Lowest}
+use Rattle.steps.specs.declared.lowest.Lowest.the-variants.{Unbroken, BrokenAt}
+use Rattle.steps.specs.Lowest.{lowest}
+use Rattle.selection.specs.Selection.{selects, selectedNumber}
+use Rattle.steps.specs.declared.actions.Action.{Action}
+use Rattle.steps.specs.declared.actions.Action.the-variants.{Malformed, Assign, Withdraw, Grant, Take, Open, Activate, Deactivate, Access, Finish, Close, Move, Lost, Clock}
+use Rattle.steps.specs.Steps.{isTime}
+use Rattle.enforcement.specs.States.{assignedRole, holdsRole, carries, isOpen, userOf, positionOf, activeRole, isUnknown, sessionAccepted, stateAccepted}
+use Rattle.steps.specs.Steps.{ranged, actionOf, isEvent}
+use Rattle.enforcement.specs.Steps.{Checked, passes, refuses, refuseIf, check, target}
 use Rattle.enforcement.specs.Decisions.{granted, refused}
-use Rattle.enforcement.specs.Gate.{testsSelected, grantedNext, refusedNext, requestNext, passedNext, checkedNext, decide, stepOf, decisionOf, ruleOf}
-use Rattle.enforcement.specs.Narrow.{numberOf, lowestSelected}
-use Rattle.enforcement.specs.Table.{Writes, Cause, malformed, past, open-already, activate-closed, deactivate-closed, access-closed, close-closed, move-closed, lost-closed, assign-already, grant-already, activate-already, withdraw-not, take-not, deactivate-not, activate-unheld, withdraw-active, access-uncarried, checksOf, FirstCause, Unaccepted, late, user-past, off-grid, keeps-user, keeps-position, keeps-role}
+use Rattle.enforcement.specs.Gate.{testsSelected, grantedNext, refusedNext, requestNext, passedNext, checkedNext, decide, stepOf, decisionOf, namedRule}
+use Rattle.enforcement.specs.Narrow.{lowestSelected}
+use Rattle.enforcement.specs.Causes.{Writes, Cause, malformed, past, open-already, activate-closed, deactivate-closed, access-closed, close-closed, move-closed, lost-closed, assign-already, grant-already, activate-already, withdraw-not, take-not, deactivate-not, activate-unheld, withdraw-active, access-uncarried, checksOf, FirstCause, Unaccepted, late, user-past, off-grid, keeps-user, keeps-position, keeps-role}
+use Rattle.enforcement.specs.Claims.{TakesTarget}
 use Rattle.enforcement.specs.declared.states.State.{State}
-use Rattle.enforcement.specs.declared.steps.Step.{Step}
-use Rattle.enforcement.specs.declared.steps.Answer.the-variants.{Broken, Refused}
-use Rattle.enforcement.specs.declared.steps.Next.{Next}
+use Rattle.steps.specs.declared.steps.Step.{Step}
+use Rattle.steps.specs.declared.answers.Answer.the-variants.{Broken, Refused}
+use Rattle.enforcement.specs.declared.states.Next.{Next}
 use Rattle.enforcement.proofs.Ranges.{Ranged, action-ranged}
 
 -- ---- the action that a step writes
@@ -230,30 +236,34 @@ FirstFailing test rules filler n = (n < length rules) × (test (getD rules n fil
 
 module _ (test : Rule → Bool) (filler : Rule) where
   -- with rules numbered from some number on
-  of-lowest : (rules : List Rule) (start number : ℕ) → lowest test start rules ≡ broken number → (n : ℕ) × (number ≡ start + n) × FirstFailing test rules filler n
+  of-lowest : (rules : List Rule) (start number : ℕ) → lowest test start rules ≡ BrokenAt number → (n : ℕ) × (number ≡ start + n) × FirstFailing test rules filler n
   unfolding lowest
   of-lowest [] start number h = absurd (let distinct : _≡_ {A = ℕ} 0 1 = cc in omega arith)
   of-lowest (rule ∷ rules) start number h = go (test rule) refl (of-lowest rules (suc start) number) h
     where
-      go : (b : Bool) → test rule ≡ b → (lowest test (suc start) rules ≡ broken number → (n : ℕ) × (number ≡ suc start + n) × FirstFailing test rules filler n) → cond b (lowest test (suc start) rules) (broken start) ≡ broken number → (n : ℕ) × (number ≡ start + n) × FirstFailing test (rule ∷ rules) filler n
+      go : (b : Bool) → test rule ≡ b → (lowest test (suc start) rules ≡ BrokenAt number → (n : ℕ) × (number ≡ suc start + n) × FirstFailing test rules filler n) → cond b (lowest test (suc start) rules) (BrokenAt start) ≡ BrokenAt number → (n : ℕ) × (number ≡ start + n) × FirstFailing test (rule ∷ rules) filler n
       go true e later h =
           let t = later h in
           (suc (t .0), omega arith, (omega arith, t .2 .1, λ k. elim k [ zero ↦ (λ low. e) | suc j ↦ (λ low. t .2 .2 j (omega arith)) ]))
       go false e later h = let same : start ≡ number = cc in (0, omega arith, (omega arith, e, λ k low. absurd (omega arith)))
 
-  to-lowest : (rules : List Rule) (start n : ℕ) → FirstFailing test rules filler n → lowest test start rules ≡ broken (start + n)
+  to-lowest : (rules : List Rule) (start n : ℕ) → FirstFailing test rules filler n → lowest test start rules ≡ BrokenAt (start + n)
   unfolding lowest
   to-lowest [] start n t = absurd (omega arith)
   to-lowest (rule ∷ rules) start zero t = rw (t .1, add-zero)
   to-lowest (rule ∷ rules) start (suc n) t =
-      rw (t .2 0 (omega arith)) (to-lowest rules (suc start) n (omega arith, t .1, λ k low. t .2 (suc k) (omega arith)) ∙ ap broken (omega arith))
+      rw (t .2 0 (omega arith)) (to-lowest rules (suc start) n (omega arith, t .1, λ k low. t .2 (suc k) (omega arith)) ∙ ap BrokenAt (omega arith))
 
 -- the lowest broken rule is rule n exactly where rule n fails the test and none before it does; rules are numbered from 1 on
-pub lowest-means : (test : Rule → Bool) (rules : List Rule) (filler : Rule) (n : ℕ) → (lowest test 1 rules ≡ broken (suc n)) ↔ ((n < length rules) × (test (getD rules n filler) ≡ false) × ((k : ℕ) → k < n → test (getD rules k filler) ≡ true))
+pub lowest-means : (test : Rule → Bool) (rules : List Rule) (filler : Rule) (n : ℕ) → (lowest test 1 rules ≡ BrokenAt (suc n)) ↔ ((n < length rules) × (test (getD rules n filler) ≡ false) × ((k : ℕ) → k < n → test (getD rules k filler) ≡ true))
 lowest-means test rules filler n = (
   λ h. let t = of-lowest test filler rules 1 (suc n) h in let same : t .0 ≡ n = omega arith in rw same at (t .2),
   λ t. rw (← one-add n) (to-lowest test filler rules 1 n t),
 )
+
+-- and its number is above 0
+pub lowest-number : (test : Rule → Bool) (rules : List Rule) (number : ℕ) → lowest test 1 rules ≡ BrokenAt number → (n : ℕ) × (number ≡ suc n)
+lowest-number test rules number h = let t = of-lowest test (MaxRoles 0) rules 1 number h in (t .0, omega arith)
 
 -- ---- 40
 
@@ -324,17 +334,17 @@ module _
     (P : Next → Type 0)
     (forty : listAccepted list && stateAccepted s ≡ false → P (refusedNext s (Refused 40)))
     (checks : (number : ℕ) → check s (actionOf step) ≡ refuses number → P (refusedNext s (Refused number)))
-    (thirty : (rule : ℕ) → check s (actionOf step) ≡ passes → isEvent (actionOf step) ≡ false → lowestSelected (rulesOf list) (actionOf step) (target s (actionOf step)) ≡ broken rule → P (refusedNext s (Broken rule (numberOf (rulesOf list) (actionOf step)))))
-    (grants : (after : State) → P (grantedNext (numberOf (rulesOf list) (actionOf step)) s after))
+    (thirty : (rule : ℕ) → check s (actionOf step) ≡ passes → isEvent (actionOf step) ≡ false → lowestSelected (rulesOf list) (actionOf step) (target s (actionOf step)) ≡ BrokenAt rule → P (refusedNext s (Broken rule (selectedNumber (selects (actionOf step)) (rulesOf list)))))
+    (grants : (after : State) → TakesTarget s (actionOf step) after → P (grantedNext (selectedNumber (selects (actionOf step)) (rulesOf list)) s after))
   where
-    by-lowest : check s (actionOf step) ≡ passes → isEvent (actionOf step) ≡ false → (low : Lowest) → lowestSelected (rulesOf list) (actionOf step) (target s (actionOf step)) ≡ low → P (requestNext (numberOf (rulesOf list) (actionOf step)) s (target s (actionOf step)) low)
+    by-lowest : check s (actionOf step) ≡ passes → isEvent (actionOf step) ≡ false → (low : Lowest) → lowestSelected (rulesOf list) (actionOf step) (target s (actionOf step)) ≡ low → P (requestNext (selectedNumber (selects (actionOf step)) (rulesOf list)) s (target s (actionOf step)) low)
     unfolding requestNext
-    by-lowest pass event unbroken e = grants (target s (actionOf step))
-    by-lowest pass event (broken rule) e = thirty rule pass event e
+    by-lowest pass event Unbroken e = grants (target s (actionOf step)) (record { passed = pass; requested = λ request. refl; changed = refl })
+    by-lowest pass event (BrokenAt rule) e = thirty rule pass event e
 
     by-event : check s (actionOf step) ≡ passes → (event : Bool) → isEvent (actionOf step) ≡ event → P (passedNext event (rulesOf list) s (actionOf step))
     unfolding passedNext
-    by-event pass true e = grants _
+    by-event pass true e = grants _ (record { passed = pass; requested = λ request. absurd (false≢true (sym request ∙ e)); changed = refl })
     by-event pass false e = by-lowest pass e (lowestSelected (rulesOf list) (actionOf step) (target s (actionOf step))) refl
 
     by-check : (checked : Checked) → check s (actionOf step) ≡ checked → P (checkedNext checked (rulesOf list) s (actionOf step))
@@ -386,6 +396,13 @@ same-refusal a b h = cc
 pub not-granted : (n : ℕ) → granted ≡ refused n → ⊥
 not-granted n h = let distinct : _≡_ {A = ℕ} 0 1 = cc in omega arith
 
+-- a granted step hands back its target
+pub granted-step : (list : RuleList) (s : State) (step : Step) → decisionOf (stepOf list s step .answer) ≡ granted → TakesTarget s (actionOf step) (stepOf list s step .state)
+granted-step list s step =
+    by-outcome list s step (λ next. decisionOf (next .answer) ≡ granted → TakesTarget s (actionOf step) (next .state))
+    (λ h d. absurd (not-granted 40 (sym d))) (λ number h d. absurd (not-granted number (sym d)))
+    (λ rule pass event h d. absurd (not-granted 30 (sym d))) (λ after taken d. taken)
+
 -- 40 comes first
 pub refused-forty : (list : RuleList) (s : State) (step : Step) → (listAccepted list && stateAccepted s ≡ false) ↔ (decisionOf (stepOf list s step .answer) ≡ refused 40)
 unfolding stepOf
@@ -395,7 +412,7 @@ refused-forty list s step = (
       (λ h d. h)
       (λ number h d. let low = check-below s (actionOf step) number h in let same = same-refusal number 40 d in absurd (omega arith))
       (λ rule pass event h d. let same = same-refusal 30 40 d in absurd (omega arith))
-      (λ after d. absurd (not-granted 40 d)),
+      (λ after taken d. absurd (not-granted 40 d)),
 )
 
 -- and then the checks
@@ -406,19 +423,19 @@ refused-check list s step number accepted other = (
       (λ h d. clash accepted h)
       (λ n h d. h ∙ ap refuses (same-refusal n number d))
       (λ rule pass event h d. absurd (other (sym (same-refusal 30 number d))))
-      (λ after d. absurd (not-granted number d)),
+      (λ after taken d. absurd (not-granted number d)),
   λ h. rw (accepted, h),
 )
 
 -- and then 30, with the lowest broken one of the rules that a request selects
-pub refused-thirty : (list : RuleList) (s : State) (step : Step) (rule : ℕ) → listAccepted list && stateAccepted s ≡ true → ((decisionOf (stepOf list s step .answer) ≡ refused 30) × (ruleOf (stepOf list s step .answer) ≡ rule)) ↔ ((check s (actionOf step) ≡ passes) × (isEvent (actionOf step) ≡ false) × (lowest (testsSelected (selects (actionOf step)) (target s (actionOf step))) 1 (rulesOf list) ≡ broken rule))
+pub refused-thirty : (list : RuleList) (s : State) (step : Step) (rule : ℕ) → listAccepted list && stateAccepted s ≡ true → ((decisionOf (stepOf list s step .answer) ≡ refused 30) × (namedRule (stepOf list s step .answer) ≡ rule)) ↔ ((check s (actionOf step) ≡ passes) × (isEvent (actionOf step) ≡ false) × (lowest (testsSelected (selects (actionOf step)) (target s (actionOf step))) 1 (rulesOf list) ≡ BrokenAt rule))
 unfolding stepOf decide checkedNext passedNext requestNext
 refused-thirty list s step rule accepted = (
-  by-outcome list s step (λ next. (decisionOf (next .answer) ≡ refused 30) × (ruleOf (next .answer) ≡ rule) → (check s (actionOf step) ≡ passes) × (isEvent (actionOf step) ≡ false) × (lowestSelected (rulesOf list) (actionOf step) (target s (actionOf step)) ≡ broken rule))
+  by-outcome list s step (λ next. (decisionOf (next .answer) ≡ refused 30) × (namedRule (next .answer) ≡ rule) → (check s (actionOf step) ≡ passes) × (isEvent (actionOf step) ≡ false) × (lowestSelected (rulesOf list) (actionOf step) (target s (actionOf step)) ≡ BrokenAt rule))
       (λ h d. clash accepted h)
       (λ number h d. let low = check-below s (actionOf step) number h in let same = same-refusal number 30 (d .0) in absurd (omega arith))
-      (λ number pass event h d. (pass, event, h ∙ ap broken (d .1)))
-      (λ after d. absurd (not-granted 30 (d .0))),
+      (λ number pass event h d. (pass, event, h ∙ ap BrokenAt (d .1)))
+      (λ after taken d. absurd (not-granted 30 (d .0))),
   λ t. rw (accepted, t .0, t .1, t .2) (refl, refl),
 )
 
@@ -426,4 +443,4 @@ refused-thirty list s step rule accepted = (
 pub refused-leaves : (list : RuleList) (s : State) (step : Step) (number : ℕ) → decisionOf (stepOf list s step .answer) ≡ refused number → stepOf list s step .state ≡ s
 refused-leaves list s step number =
     by-outcome list s step (λ next. decisionOf (next .answer) ≡ refused number → next .state ≡ s)
-    (λ h d. refl) (λ n h d. refl) (λ rule pass event h d. refl) (λ after d. absurd (not-granted number d))
+    (λ h d. refl) (λ n h d. refl) (λ rule pass event h d. refl) (λ after taken d. absurd (not-granted number d))

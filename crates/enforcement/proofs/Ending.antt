@@ -19,17 +19,20 @@ use Rattle.rules.specs.Acceptance.{every}
 use Rattle.rules.proofs.Every.{every-of}
 use Rattle.rules.specs.declared.families.Rule.{Rule}
 use Rattle.rules.specs.declared.families.Rule.the-variants.{Prerequisite, MaxUsers, MaxRoles, MaxPermissions, MaxActive, StaticSeparation, DynamicSeparation, Dependency, TimeContext, LocationContext, HistorySeparation, BindingOfDuty}
-use Rattle.selection.specs.Pairs.{pairCount, Part}
+use Rattle.steps.specs.Pairs.{pairCount, Part}
 use Rattle.selection.specs.Selection.{isNeeds, isDuring, isAt, selects}
-use Rattle.selection.specs.declared.actions.Action.{Action}
-use Rattle.selection.specs.declared.actions.Action.the-variants.{Malformed, Assign, Withdraw, Grant, Take, Open, Activate, Deactivate, Access, Finish, Close, Move, Lost, Clock}
+use Rattle.steps.specs.declared.actions.Action.{Action}
+use Rattle.steps.specs.declared.actions.Action.the-variants.{Malformed, Assign, Withdraw, Grant, Take, Open, Activate, Deactivate, Access, Finish, Close, Move, Lost, Clock}
 use Rattle.enforcement.specs.States.{positionOf, ruleHolds}
-use Rattle.enforcement.specs.Steps.{withActive, isEvent}
+use Rattle.steps.specs.Steps.{isEvent}
+use Rattle.enforcement.specs.Steps.{withActive}
 use Rattle.enforcement.specs.Decisions.{Largest}
-use Rattle.enforcement.specs.Gate.{testsSelected, keeps, stays, round, remaining}
+use Rattle.enforcement.specs.Gate.{testsSelected}
+use Rattle.enforcement.specs.Rounds.{keeps, stays, round, remaining}
 use Rattle.enforcement.specs.Reached.{Typed}
 use Rattle.enforcement.specs.declared.states.State.{State}
-use Rattle.enforcement.proofs.Holding.{Holds, rule-means}
+use Rattle.enforcement.specs.Claims.{Holds}
+use Rattle.enforcement.proofs.Holding.{rule-means}
 use Rattle.selection.proofs.Parts.{has-below, part-same, part-of-part, parts-equal, HasRoles, has-sifted, length-sifted, settled-keeps, settled-fixed}
 
 -- there is at most one largest part

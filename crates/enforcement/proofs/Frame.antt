@@ -21,16 +21,19 @@ use Rattle.rules.specs.Families.{wordAt, hasRole, closedSession, sessionAt, per
 use Rattle.rules.specs.declared.families.Rule.{Rule}
 use Rattle.rules.specs.declared.families.Rule.the-variants.{Prerequisite, MaxUsers, MaxRoles, MaxPermissions, MaxActive, StaticSeparation, DynamicSeparation, Dependency, TimeContext, LocationContext, HistorySeparation, BindingOfDuty}
 use Rattle.rules.specs.declared.sessions.Session.{Session}
-use Rattle.selection.specs.Pairs.{Part}
+use Rattle.steps.specs.Pairs.{Part}
 use Rattle.selection.specs.Selection.{isNeeds, isDuring, isAt, selects}
-use Rattle.selection.specs.declared.actions.Action.{Action}
-use Rattle.selection.specs.declared.actions.Action.the-variants.{Malformed, Assign, Withdraw, Grant, Take, Open, Activate, Deactivate, Access, Finish, Close, Move, Lost, Clock}
-use Rattle.enforcement.specs.States.{holdsRole, carries, isOpen, userOf, positionOf, activeRole, did, ruleHolds, isUnknown, isTime, sessionAccepted, stateAccepted}
-use Rattle.enforcement.specs.Steps.{Checked, passes, refuseIf, check, withSessions, withActive, withTime, put, takeOut, emptied, session, placed, target, isEvent}
+use Rattle.steps.specs.declared.actions.Action.{Action}
+use Rattle.steps.specs.declared.actions.Action.the-variants.{Malformed, Assign, Withdraw, Grant, Take, Open, Activate, Deactivate, Access, Finish, Close, Move, Lost, Clock}
+use Rattle.steps.specs.Steps.{isTime}
+use Rattle.enforcement.specs.States.{holdsRole, carries, isOpen, userOf, positionOf, activeRole, did, ruleHolds, isUnknown, sessionAccepted, stateAccepted}
+use Rattle.steps.specs.Steps.{isEvent}
+use Rattle.enforcement.specs.Steps.{Checked, passes, refuseIf, check, withSessions, withActive, withTime, put, takeOut, emptied, session, placed, target}
 use Rattle.enforcement.specs.Reached.{Accepted}
 use Rattle.enforcement.specs.declared.states.State.{State}
 use Rattle.enforcement.proofs.Words.{has-put, has-take-out, has-set-empty, word-emptied, session-set}
-use Rattle.enforcement.proofs.Holding.{Holds, rule-means}
+use Rattle.enforcement.specs.Claims.{Holds}
+use Rattle.enforcement.proofs.Holding.{rule-means}
 use Rattle.enforcement.proofs.Ranges.{Ranged}
 
 -- ---- tests

@@ -1,45 +1,18 @@
 -- What each rule says of a state, in plain quantifiers over what can be observed of it.
 -- Assumes nothing.
-use mathlib.Core.Path.{_≡_}
-use mathlib.Core.Bool.{true, _||_}
+use mathlib.Core.Path.{_≡_, refl}
+use mathlib.Core.Bool.{Bool, true}
 use mathlib.Core.Logic.{_↔_}
-use Prim.Native.Nat.{ℕ, _≤_, _<_}
-use Rattle.sets.specs.Sets.{count}
-use Rattle.sets.proofs.Counting.{AtMostOne}
-use Rattle.calendar.specs.Terms.{termHolds}
-use Rattle.places.specs.Places.{sideHolds}
+use mathlib.Core.List.{List, [], _∷_}
+use Rattle.sets.proofs.Booleans.{both, both-true}
+use Rattle.rules.specs.Acceptance.{every}
 use Rattle.rules.proofs.Meaning.{prerequisite-means, max-users-means, max-roles-means, max-permissions-means, max-active-means, static-separation-means, dynamic-separation-means, dependency-means, time-context-means, location-context-means, history-separation-means, binding-of-duty-means}
 use Rattle.rules.specs.declared.families.Rule.{Rule}
 use Rattle.rules.specs.declared.families.Rule.the-variants.{Prerequisite, MaxUsers, MaxRoles, MaxPermissions, MaxActive, StaticSeparation, DynamicSeparation, Dependency, TimeContext, LocationContext, HistorySeparation, BindingOfDuty}
-use Rattle.enforcement.specs.States.{assignedRole, holdsRole, carries, userOf, positionOf, activeRole, did, viewOf, ruleHolds}
+use Rattle.enforcement.specs.States.{viewOf, ruleHolds}
+use Rattle.enforcement.specs.Plain.{obeys}
+use Rattle.enforcement.specs.Claims.{In, here, there, Holds}
 use Rattle.enforcement.specs.declared.states.State.{State}
-
-abbrev pub Holds : Rule → State → Type 0
--- each user assigned r is assigned q
-Holds (Prerequisite r q) s = (u : ℕ) → u < 64 → assignedRole s u r ≡ true → assignedRole s u q ≡ true
--- at most n users hold r
-Holds (MaxUsers r n) s = count 64 (λ u. holdsRole s u r) ≤ n
--- each user holds at most n roles
-Holds (MaxRoles n) s = (u : ℕ) → u < 64 → count 32 (holdsRole s u) ≤ n
--- r carries at most n permissions
-Holds (MaxPermissions r n) s = count 32 (carries s r) ≤ n
--- each session has at most n active roles
-Holds (MaxActive n) s = (i : ℕ) → i < 32 → count 32 (activeRole s i) ≤ n
--- no user holds both
-Holds (StaticSeparation r q) s = (u : ℕ) → u < 64 → holdsRole s u r ≡ true → holdsRole s u q ≡ true → ⊥
--- no user has both active, in one session or in two
-Holds (DynamicSeparation r q) s =
-    (u i j : ℕ) → u < 64 → i < 32 → j < 32 → (userOf s i ≡ u) × (activeRole s i r ≡ true) → (userOf s j ≡ u) × (activeRole s j q ≡ true) → ⊥
--- while r is active in a session, q is active in some session
-Holds (Dependency r q) s = (i : ℕ) → i < 32 → activeRole s i r ≡ true → (j : ℕ) × (j < 32) × (activeRole s j q ≡ true)
--- r is active only while the term holds
-Holds (TimeContext r term) s = (i : ℕ) → i < 32 → activeRole s i r ≡ true → termHolds term (s .time) ≡ true
--- r is active only in sessions positioned so
-Holds (LocationContext r side) s = (i : ℕ) → i < 32 → activeRole s i r ≡ true → sideHolds side (positionOf s i) ≡ true
--- no user did both on one object
-Holds (HistorySeparation p q) s = (o : ℕ) → o < 32 → (u : ℕ) → u < 64 → did s o p u ≡ true → did s o q u ≡ true → ⊥
--- on each object any two users who did p or q are one
-Holds (BindingOfDuty p q) s = (o : ℕ) → o < 32 → AtMostOne 64 (λ u. did s o p u || did s o q u)
 
 -- a rule holds in a state exactly where it says so
 pub rule-means : (rule : Rule) (s : State) → (ruleHolds rule s ≡ true) ↔ Holds rule s
@@ -55,3 +28,22 @@ rule-means (TimeContext r term) s = time-context-means (viewOf s) r term
 rule-means (LocationContext r side) s = location-context-means (viewOf s) r side
 rule-means (HistorySeparation p q) s = history-separation-means (viewOf s) p q
 rule-means (BindingOfDuty p q) s = binding-of-duty-means (viewOf s) p q
+
+-- ---- a list of rules
+
+each-in : (test : Rule → Bool) (rule : Rule) (rules : List Rule) → In rule rules → every test rules ≡ true → test rule ≡ true
+unfolding every
+each-in test rule rules (here {rules = rest}) e = both (test rule) (every test rest) e .0
+each-in test rule rules (there {other = other} {rules = rest} h) e = each-in test rule rest h (both (test other) (every test rest) e .1)
+
+every-in : (test : Rule → Bool) (rules : List Rule) → ((rule : Rule) → In rule rules → test rule ≡ true) → every test rules ≡ true
+unfolding every
+every-in test [] h = refl
+every-in test (rule ∷ rules) h = both-true (test rule) (every test rules) (h rule here) (every-in test rules (λ other member. h other (there member)))
+
+-- a state obeys a list exactly where each rule of it holds
+pub obeys-means : (rules : List Rule) (s : State) → (obeys rules s ≡ true) ↔ ((rule : Rule) → In rule rules → Holds rule s)
+obeys-means rules s = (
+  λ h rule member. rule-means rule s .0 (each-in (λ k. ruleHolds k s) rule rules member h),
+  λ h. every-in (λ k. ruleHolds k s) rules (λ rule member. rule-means rule s .1 (h rule member)),
+)

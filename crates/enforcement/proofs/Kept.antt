@@ -25,21 +25,23 @@ use Rattle.rules.specs.Families.{wordAt, hasRole, closedSession, sessionAt, isA
 use Rattle.rules.specs.declared.families.Rule.{Rule}
 use Rattle.rules.specs.declared.families.Rule.the-variants.{Prerequisite, MaxUsers, MaxRoles, MaxPermissions, MaxActive, StaticSeparation, DynamicSeparation, Dependency, TimeContext, LocationContext, HistorySeparation, BindingOfDuty}
 use Rattle.rules.specs.declared.sessions.Session.{Session}
-use Rattle.selection.specs.Pairs.{Part}
-use Rattle.selection.specs.declared.actions.Action.{Action}
-use Rattle.selection.specs.declared.actions.Action.the-variants.{Malformed, Assign, Withdraw, Grant, Take, Open, Activate, Deactivate, Access, Finish, Close, Move, Lost, Clock}
-use Rattle.enforcement.specs.States.{fresh, assignedRole, holdsRole, carries, isOpen, userOf, positionOf, activeRole, did, ruleHolds, isTime, sessionAccepted, stateAccepted}
+use Rattle.steps.specs.Pairs.{Part}
+use Rattle.steps.specs.declared.actions.Action.{Action}
+use Rattle.steps.specs.declared.actions.Action.the-variants.{Malformed, Assign, Withdraw, Grant, Take, Open, Activate, Deactivate, Access, Finish, Close, Move, Lost, Clock}
+use Rattle.steps.specs.Steps.{isTime}
+use Rattle.enforcement.specs.States.{fresh, assignedRole, holdsRole, carries, isOpen, userOf, positionOf, activeRole, did, ruleHolds, sessionAccepted, stateAccepted}
 use Rattle.enforcement.specs.Steps.{Checked, passes, refuseIf, check, target, withAssigned, withGranted, withSessions, withActive, withHistory, withTime, placed, put, takeOut, emptied, session}
 use Rattle.enforcement.specs.Reached.{Typed, Accepted, Held}
 use Rattle.enforcement.specs.declared.states.State.{State}
 use Rattle.enforcement.proofs.Words.{has-put, has-take-out}
 use Rattle.enforcement.proofs.Ranges.{Ranged}
-use Rattle.enforcement.proofs.Holding.{Holds, rule-means}
+use Rattle.enforcement.specs.Claims.{Holds}
+use Rattle.enforcement.proofs.Holding.{rule-means}
 use Rattle.enforcement.proofs.Frame.{not-refused, closed-inactive}
 use Rattle.selection.proofs.Parts.{has-below}
 
 -- the checks after one that passes pass
-later-passes : (cause : Bool) (number : ℕ) (later : Checked) → refuseIf cause number later ≡ passes → later ≡ passes
+pub later-passes : (cause : Bool) (number : ℕ) (later : Checked) → refuseIf cause number later ≡ passes → later ≡ passes
 later-passes true number later pass = absurd (let e : _≡_ {A = ℕ} 0 1 = cc in omega arith)
 later-passes false number later pass = pass
 

@@ -17,7 +17,7 @@ use Rattle.sets.proofs.Booleans.{both-true, left-true, right-true, implies, of-
 use Rattle.sets.proofs.Members.{member-low, member-high, member-empty}
 use Rattle.sets.proofs.Width.{half-lt, subset-means}
 use Rattle.rules.specs.Families.{wordAt, hasRole}
-use Rattle.selection.specs.Pairs.{Part}
+use Rattle.steps.specs.Pairs.{Part}
 use Rattle.enforcement.specs.Steps.{withActive}
 use Rattle.enforcement.specs.Decisions.{Largest}
 use Rattle.enforcement.specs.Plain.{doubled, subsets, before, eachBefore, parts, isWithin, allLists, firstList, isLargest, largestPart}

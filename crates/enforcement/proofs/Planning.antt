@@ -30,12 +30,12 @@ use Rattle.rules.specs.declared.lists.Slot.{Slot}
 use Rattle.rules.specs.declared.sessions.Session.{Session}
 use Rattle.selection.specs.Selection.{first, selects, selectedNumber}
 use Rattle.selection.specs.Choices.{chosen}
-use Rattle.selection.specs.declared.actions.Action.{Action}
+use Rattle.steps.specs.declared.actions.Action.{Action}
 use Rattle.selection.specs.declared.selection.Choice.{Choice}
 use Rattle.selection.specs.Ending.{lets}
 use Rattle.enforcement.specs.States.{positionOf, activeRole}
 use Rattle.enforcement.specs.Steps.{put}
-use Rattle.enforcement.specs.Gate.{keeps}
+use Rattle.enforcement.specs.Rounds.{keeps}
 use Rattle.enforcement.specs.Deciding.{Planned, Adds, RuledOut, countedPlan}
 use Rattle.enforcement.specs.declared.states.State.{State}
 use Rattle.enforcement.specs.declared.events.Plan.{Plan}

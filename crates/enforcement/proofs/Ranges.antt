@@ -7,10 +7,10 @@ use lib.Dec.{eqb, ltb}
 use borrow.Author.Tests.{ltb-true, leb-true}
 use Rattle.sets.proofs.Booleans.{both}
 use Rattle.places.specs.Places.{onGrid, pointInRange}
-use Rattle.selection.specs.declared.actions.Action.{Action}
-use Rattle.selection.specs.declared.actions.Action.the-variants.{Malformed, Assign, Withdraw, Grant, Take, Open, Activate, Deactivate, Access, Finish, Close, Move, Lost, Clock}
-use Rattle.enforcement.specs.Steps.{ranged, actionOf}
-use Rattle.enforcement.specs.declared.steps.Step.{Step}
+use Rattle.steps.specs.declared.actions.Action.{Action}
+use Rattle.steps.specs.declared.actions.Action.the-variants.{Malformed, Assign, Withdraw, Grant, Take, Open, Activate, Deactivate, Access, Finish, Close, Move, Lost, Clock}
+use Rattle.steps.specs.Steps.{ranged, actionOf}
+use Rattle.steps.specs.declared.steps.Step.{Step}
 
 -- each number is in the range that document 01 gives it
 abbrev pub Ranged : Action → Type 0

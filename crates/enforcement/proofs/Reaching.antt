@@ -6,16 +6,17 @@ use mathlib.Core.List.{List}
 use Rattle.rules.specs.Acceptance.{rulesOf, listAccepted}
 use Rattle.rules.specs.declared.families.Rule.{Rule}
 use Rattle.rules.specs.declared.lists.RuleList.{RuleList}
-use Rattle.selection.specs.declared.actions.Action.{Action}
-use Rattle.enforcement.specs.Steps.{actionOf, target}
-use Rattle.enforcement.specs.Plain.{obeys}
+use Rattle.steps.specs.declared.actions.Action.{Action}
+use Rattle.steps.specs.Steps.{actionOf}
+use Rattle.enforcement.specs.Steps.{target}
 use Rattle.enforcement.specs.Gate.{refusedNext, decide, stepOf}
 use Rattle.enforcement.specs.Narrow.{Narrow, refusing, breaking, taking, ending}
+pub use Rattle.enforcement.specs.Reached.{Good}
 use Rattle.enforcement.specs.Reached.{Accepted, Held, Reached, start, read, stepped}
 use Rattle.enforcement.specs.declared.states.State.{State}
-use Rattle.enforcement.specs.declared.steps.Step.{Step}
-use Rattle.enforcement.specs.declared.steps.Answer.the-variants.{Refused}
-use Rattle.enforcement.specs.declared.steps.Next.{Next}
+use Rattle.steps.specs.declared.steps.Step.{Step}
+use Rattle.steps.specs.declared.answers.Answer.the-variants.{Refused}
+use Rattle.enforcement.specs.declared.states.Next.{Next}
 use Rattle.enforcement.proofs.Ranges.{Ranged, action-ranged}
 use Rattle.enforcement.proofs.Kept.{accepted-target, accepted-part, held-target, held-part, fresh-accepted, fresh-held}
 use Rattle.enforcement.proofs.Agreement.{step-narrow, step-keeps, all-hold-fresh}
@@ -51,12 +52,6 @@ step-accepted list s step accepted = step-kept list s step accepted .stillAccept
 -- and in which each active role is held by its session's user, where it was before
 pub step-held : (list : RuleList) (s : State) (step : Step) → Accepted s → Held s → Held (stepOf list s step .state)
 step-held list s step accepted = step-kept list s step accepted .stillHeld
-
--- what is claimed of a reached state
-pub record Good (list : RuleList) (s : State) : Type 0 where
-  pub accepted : Accepted s
-  pub held : Held s
-  pub obeyed : obeys (rulesOf list) s ≡ true
 
 -- every reached state is one that 40 does not refuse, has its active roles held, and obeys the rules, where what was read is so
 pub reached-good : (list : RuleList) → listAccepted list ≡ true → (Read : State → Type 0) → ((s : State) → Read s → Good list s) → {s : State} → Reached list Read s → Good list s

@@ -17,38 +17,38 @@ use Rattle.rules.specs.declared.families.Rule.{Rule}
 use Rattle.rules.specs.declared.lists.RuleList.{RuleList}
 use Rattle.selection.specs.Selection.{selects, selectedNumber}
 use Rattle.enforcement.specs.States.{fresh, stateAccepted}
-use Rattle.enforcement.specs.Steps.{actionOf}
+use Rattle.steps.specs.Steps.{actionOf}
 use Rattle.enforcement.specs.Decisions.{granted, refused}
-use Rattle.enforcement.specs.Gate.{decide, stepOf, runOf, decisionOf, ruleOf, selectedOf, endedOf, comparedRun}
+use Rattle.enforcement.specs.Gate.{decide, stepOf, runOf, decisionOf, namedRule, selectedOf, endedOf, comparedRun}
 use Rattle.enforcement.specs.Reached.{Accepted}
-use Rattle.enforcement.specs.Words.{packedOf, wordOf}
-use Rattle.enforcement.specs.Runs.{refusalOf, planOf, lastState, ranOf, entriesOf, writtenOf, numberOf, tableNumber, plainWords, plainEntries, lastVerdict, plainState}
+use Rattle.steps.specs.Answers.{packedOf, wordOf}
+use Rattle.enforcement.specs.Runs.{refusalOf, admissionOf, lastState, ranOf, entriesOf, entriesWritten, decisionNumber, tableNumber, plainWords, plainEntries, lastVerdict, plainState}
 use Rattle.enforcement.specs.declared.states.State.{State}
-use Rattle.enforcement.specs.declared.steps.Step.{Step}
-use Rattle.enforcement.specs.declared.steps.Answer.{Answer}
-use Rattle.enforcement.specs.declared.steps.Answer.the-variants.{Granted, Broken, Refused}
-use Rattle.enforcement.specs.declared.steps.Next.{Next}
+use Rattle.steps.specs.declared.steps.Step.{Step}
+use Rattle.steps.specs.declared.answers.Answer.{Answer}
+use Rattle.steps.specs.declared.answers.Answer.the-variants.{Granted, Broken, Refused}
+use Rattle.enforcement.specs.declared.states.Next.{Next}
 use Rattle.enforcement.specs.declared.runs.Ran.{Ran}
-use Rattle.enforcement.specs.declared.runs.Going.{Going}
+use Rattle.enforcement.specs.declared.runs.Admission.{Admission}
 use Rattle.enforcement.proofs.Kept.{fresh-accepted}
 use Rattle.enforcement.proofs.Agreement.{agreement}
 use Rattle.enforcement.proofs.Reaching.{step-accepted}
-use Rattle.enforcement.proofs.Table.{number-selected}
+use Rattle.enforcement.proofs.Carried.{number-selected}
 
 -- ---- the plan
 
 module _ (list : RuleList) (s : State) (steps room : ℕ) where
-  pub plan-refused : (listAccepted list && stateAccepted s) ≡ false → _≡_ {A = Going} (record { number = 40; count = 0 }) (planOf list s steps room)
-  unfolding planOf refusalOf
-  plan-refused h = rw (h) refl
+  pub admission-refused : (listAccepted list && stateAccepted s) ≡ false → _≡_ {A = Admission} (record { number = 40; count = 0 }) (admissionOf list s steps room)
+  unfolding admissionOf refusalOf
+  admission-refused h = rw (h) refl
 
-  pub plan-full : (listAccepted list && stateAccepted s) ≡ true → ltb room steps ≡ true → _≡_ {A = Going} (record { number = 18; count = 0 }) (planOf list s steps room)
-  unfolding planOf refusalOf
-  plan-full h full = rw (h, full) refl
+  pub admission-full : (listAccepted list && stateAccepted s) ≡ true → ltb room steps ≡ true → _≡_ {A = Admission} (record { number = 18; count = 0 }) (admissionOf list s steps room)
+  unfolding admissionOf refusalOf
+  admission-full h full = rw (h, full) refl
 
-  pub plan-runs : (listAccepted list && stateAccepted s) ≡ true → ltb room steps ≡ false → _≡_ {A = Going} (record { number = 0; count = steps }) (planOf list s steps room)
-  unfolding planOf refusalOf
-  plan-runs h fits = rw (h, fits) refl
+  pub admission-runs : (listAccepted list && stateAccepted s) ≡ true → ltb room steps ≡ false → _≡_ {A = Admission} (record { number = 0; count = steps }) (admissionOf list s steps room)
+  unfolding admissionOf refusalOf
+  admission-runs h fits = rw (h, fits) refl
 
 -- an index below what runs
 picked : (isRun : Bool) (n i : ℕ) → i < cond isRun n 0 → T isRun × (i < n)
@@ -115,8 +115,8 @@ module _ (list : RuleList) (s : State) (steps : List Step) (entries : List ℕ) 
     pub listed : listAccepted list ≡ true
     pub stated : stateAccepted s ≡ true
 
-  pub runs-on : (i : ℕ) → i < planOf list s n m .count → Going-on i
-  unfolding planOf refusalOf
+  pub runs-on : (i : ℕ) → i < admissionOf list s n m .count → Going-on i
+  unfolding admissionOf refusalOf
   runs-on i h =
       let p : T (eqb (refusalOf list s n m) 0) × (i < n) = picked (eqb (refusalOf list s n m) 0) n i h in
       let q : ((listAccepted list && stateAccepted s) ≡ true) × T (not (ltb m n)) = unrefused (listAccepted list && stateAccepted s) (ltb m n) (p .0) in
@@ -159,13 +159,13 @@ module _ (list : RuleList) (s : State) (steps : List Step) (entries : List ℕ) 
   entries-done true = ap (λ (all : List Step). entriesOf (runOf list s all) ++ drop n entries) (take-all steps)
   entries-done false = entries-none
 
-  pub result-end : (i : ℕ) (x : State) → i ≡ planOf list s n m .count → x ≡ stateAt list s steps i → _≡_ {A = Ran} (record { number = planOf list s n m .number; state = x }) (ranOf list s steps m)
-  unfolding planOf ranOf
+  pub result-end : (i : ℕ) (x : State) → i ≡ admissionOf list s n m .count → x ≡ stateAt list s steps i → _≡_ {A = Ran} (record { number = admissionOf list s n m .number; state = x }) (ranOf list s steps m)
+  unfolding admissionOf ranOf
   result-end i x a e =
       ap (λ (y : State). record { number = refusalOf list s n m; state = y }) (e ∙ ap (stateAt list s steps) a ∙ state-done (eqb (refusalOf list s n m) 0))
 
-  pub entries-end : (i : ℕ) (ys : List ℕ) → i ≡ planOf list s n m .count → ys ≡ entriesAt list s steps entries i → ys ≡ writtenOf list s steps entries
-  unfolding planOf writtenOf
+  pub entries-end : (i : ℕ) (ys : List ℕ) → i ≡ admissionOf list s n m .count → ys ≡ entriesAt list s steps entries i → ys ≡ entriesWritten list s steps entries
+  unfolding admissionOf entriesWritten
   entries-end i ys a e = e ∙ ap (entriesAt list s steps entries) a ∙ entries-done (eqb (refusalOf list s n m) 0)
 
 -- ---- the plain gate's
@@ -178,7 +178,7 @@ last-compared s (next ∷ rest) = last-compared (next .state) rest
 -- an answer's number is the one made of what is compared and of the table's number
 word-compared : (rules : List Rule) (step : Step) (answer : Answer)
     → ((decisionOf answer ≡ granted) ⊎ (decisionOf answer ≡ refused 30) → selectedOf answer ≡ selectedNumber (selects (actionOf step)) rules)
-    → wordOf answer ≡ packedOf (numberOf (decisionOf answer)) (ruleOf answer) (tableNumber rules step (decisionOf answer)) (endedOf answer)
+    → wordOf answer ≡ packedOf (decisionNumber (decisionOf answer)) (namedRule answer) (tableNumber rules step (decisionOf answer)) (endedOf answer)
 word-compared rules step (Granted selected ended) h = ap (λ (k : ℕ). packedOf 0 0 k ended) (h (inl refl))
 word-compared rules step (Broken rule selected) h = ap (λ (k : ℕ). packedOf 30 rule k 0) (h (inr refl))
 word-compared rules step (Refused number) h = ap (λ (k : ℕ). packedOf number 0 k 0) (by-number (eqb number 30) refl)
@@ -212,6 +212,6 @@ module _ (list : RuleList) (listed : listAccepted list ≡ true) (steps : List S
     unfolding ranOf
     ran-plain = (fresh-runs, rw (fresh-runs) plain-state)
 
-    pub written-plain : writtenOf list fresh steps entries ≡ plainEntries list steps ++ drop (length steps) entries
-    unfolding writtenOf
+    pub written-plain : entriesWritten list fresh steps entries ≡ plainEntries list steps ++ drop (length steps) entries
+    unfolding entriesWritten
     written-plain = rw (fresh-runs) (ap (λ (words : List ℕ). words ++ drop (length steps) entries) plain-entries)

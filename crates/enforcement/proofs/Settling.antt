@@ -7,11 +7,11 @@ use Prim.Native.Nat.{ℕ, suc, _^_, _<_}
 use lib.ListN.{length}
 use Rattle.rules.specs.Families.{wordAt, hasRole}
 use Rattle.rules.specs.declared.families.Rule.{Rule}
-use Rattle.selection.specs.Pairs.{pairCount, Part}
+use Rattle.steps.specs.Pairs.{pairCount, Part}
 use Rattle.selection.specs.Ending.{lets, planRound, planSettled}
 use Rattle.selection.proofs.Parts.{has-below, part-same, part-of-part}
 use Rattle.selection.proofs.Settling.{round-part, part-small, settled-same, sifted-same}
-use Rattle.enforcement.specs.Gate.{stays, round, remaining}
+use Rattle.enforcement.specs.Rounds.{stays, round, remaining}
 use Rattle.enforcement.specs.Deciding.{Planned}
 use Rattle.enforcement.specs.declared.states.State.{State}
 use Rattle.enforcement.specs.declared.events.Plan.{Plan}

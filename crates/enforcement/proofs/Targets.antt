@@ -3,6 +3,7 @@
 use mathlib.Core.Path.{_≡_, refl, sym, ap, _∙_}
 use mathlib.Core.Bool.{Bool, true, false, not, cond, _&&_, _||_, and-true, and-false, and-assoc, and-comm, false≢true}
 use mathlib.Core.List.{List}
+use mathlib.Core.Logic.{_↔_}
 use Prim.Native.Nat.{ℕ, _+_, _*_, _≤_, _<_}
 use native.Mathlib.Decide.{decLt}
 use native.Mathlib.Omega.{arith}
@@ -11,39 +12,22 @@ use lib.ListN.{length, set, List·getD-eq-default}
 use lib.Seq.{set-out}
 use borrow.Author.Tests.{eq-eqb, ne-eqb, lt-ltb, le-leb, eqb-true, ltb-true, ltb-false, leb-true}
 use Rattle.sets.specs.Sets.{member}
-use Rattle.sets.proofs.Booleans.{both, both-true, same-test}
+use Rattle.sets.proofs.Booleans.{both, both-true, same-test, clash}
 use Rattle.sets.proofs.Members.{member-empty}
 use Rattle.rules.specs.Families.{wordAt, hasRole, closedSession, sessionAt, permissionsOf, usersWho, hasDone}
 use Rattle.rules.specs.declared.sessions.Session.{Session}
 use Rattle.places.specs.declared.Point.{Point}
 use Rattle.places.specs.declared.Position.{Position}
 use Rattle.places.specs.declared.Position.the-variants.{Unknown, Known}
-use Rattle.selection.specs.declared.actions.Action.{Action}
-use Rattle.selection.specs.declared.actions.Action.the-variants.{Malformed, Assign, Withdraw, Grant, Take, Open, Activate, Deactivate, Access, Finish, Close, Move, Lost, Clock}
+use Rattle.steps.specs.declared.actions.Action.{Action}
+use Rattle.steps.specs.declared.actions.Action.the-variants.{Malformed, Assign, Withdraw, Grant, Take, Open, Activate, Deactivate, Access, Finish, Close, Move, Lost, Clock}
 use Rattle.enforcement.specs.States.{assignedRole, carries, isOpen, userOf, positionOf, activeRole, did}
-use Rattle.enforcement.specs.Steps.{put, takeOut, emptied, session, placed, target, isEvent}
+use Rattle.steps.specs.Steps.{isEvent}
+use Rattle.enforcement.specs.Steps.{put, takeOut, emptied, session, placed, target}
 use Rattle.enforcement.specs.Reached.{Typed}
+use Rattle.enforcement.specs.Claims.{SameTime, SameAssigned, SameCarried, SameSessions, SameActive, SameDone, Unclosed}
 use Rattle.enforcement.specs.declared.states.State.{State}
 use Rattle.enforcement.proofs.Words.{has-put, has-take-out, has-set-empty, word-emptied, session-set}
-
--- one observation is the same in both states
-abbrev pub SameTime : State → State → Type 0
-SameTime s t = t .time ≡ s .time
-
-abbrev pub SameAssigned : State → State → Type 0
-SameAssigned s t = (u r : ℕ) → assignedRole t u r ≡ assignedRole s u r
-
-abbrev pub SameCarried : State → State → Type 0
-SameCarried s t = (r p : ℕ) → carries t r p ≡ carries s r p
-
-abbrev pub SameSessions : State → State → Type 0
-SameSessions s t = (i : ℕ) → (isOpen t i ≡ isOpen s i) × (userOf t i ≡ userOf s i) × (positionOf t i ≡ positionOf s i)
-
-abbrev pub SameActive : State → State → Type 0
-SameActive s t = (i r : ℕ) → activeRole t i r ≡ activeRole s i r
-
-abbrev pub SameDone : State → State → Type 0
-SameDone s t = (o p u : ℕ) → did t o p u ≡ did s o p u
 
 -- ---- one changed list
 
@@ -279,37 +263,28 @@ pub clock-target : (s : State) (time : ℕ) →
 unfolding target
 clock-target s time = (refl, λ u q. refl, λ q k. refl, λ j. (refl, refl, refl), λ j q. refl, λ b k u. refl)
 
--- the pairs that an event itself closes: those of the session that it closes
-abbrev pub closes : Action → ℕ → Bool
-closes Malformed j = false
-closes (Assign u r) j = false
-closes (Withdraw u r) j = false
-closes (Grant r p) j = false
-closes (Take r p) j = false
-closes (Open i u) j = false
-closes (Activate i r) j = false
-closes (Deactivate i r) j = false
-closes (Access i p o) j = false
-closes (Finish o) j = false
-closes (Close i) j = eqb i j
-closes (Move i point) j = false
-closes (Lost i) j = false
-closes (Clock t) j = false
-
 -- the pairs of an event's target are those active before that it did not itself close
-pub event-pairs : (s : State) (action : Action) → isEvent action ≡ true → (j r : ℕ) → activeRole (target s action) j r ≡ (activeRole s j r && not (closes action j))
+pub event-pairs : (s : State) (action : Action) → isEvent action ≡ true → (i r : ℕ) → (activeRole (target s action) i r ≡ true) ↔ Unclosed s action i r
 unfolding target
-event-pairs s Malformed event j r = absurd (false≢true event)
-event-pairs s (Assign u q) event j r = absurd (false≢true event)
-event-pairs s (Withdraw u q) event j r = absurd (false≢true event)
-event-pairs s (Grant q p) event j r = absurd (false≢true event)
-event-pairs s (Take q p) event j r = absurd (false≢true event)
-event-pairs s (Open i u) event j r = absurd (false≢true event)
-event-pairs s (Activate i q) event j r = absurd (false≢true event)
-event-pairs s (Deactivate i q) event j r = absurd (false≢true event)
-event-pairs s (Access i p o) event j r = absurd (false≢true event)
-event-pairs s (Finish o) event j r = absurd (false≢true event)
-event-pairs s (Close i) event j r = has-emptied (s .active) i j r
-event-pairs s (Move i point) event j r = sym (and-true (activeRole s j r))
-event-pairs s (Lost i) event j r = sym (and-true (activeRole s j r))
-event-pairs s (Clock t) event j r = sym (and-true (activeRole s j r))
+event-pairs s Malformed event i r = absurd (false≢true event)
+event-pairs s (Assign u q) event i r = absurd (false≢true event)
+event-pairs s (Withdraw u q) event i r = absurd (false≢true event)
+event-pairs s (Grant q p) event i r = absurd (false≢true event)
+event-pairs s (Take q p) event i r = absurd (false≢true event)
+event-pairs s (Open j u) event i r = absurd (false≢true event)
+event-pairs s (Activate j q) event i r = absurd (false≢true event)
+event-pairs s (Deactivate j q) event i r = absurd (false≢true event)
+event-pairs s (Access j p o) event i r = absurd (false≢true event)
+event-pairs s (Finish o) event i r = absurd (false≢true event)
+event-pairs s (Close j) event i r = (
+  λ h.
+      let t = both (activeRole s i r) (not (eqb j i)) (sym (has-emptied (s .active) j i r) ∙ h) in
+      (t .0, λ e. clash (t .1) (ap not (eq-eqb j i (same-session j i e)))),
+  λ t. has-emptied (s .active) j i r ∙ rw (t .0, ne-eqb j i (λ e. t .1 (ap Close e))),
+)
+  where
+    same-session : (j i : ℕ) → Close j ≡ Close i → j ≡ i
+    same-session j i e = cc
+event-pairs s (Move j point) event i r = ((λ h. (h, λ e. let distinct : _≡_ {A = ℕ} 0 1 = cc in omega arith)), λ t. t .0)
+event-pairs s (Lost j) event i r = ((λ h. (h, λ e. let distinct : _≡_ {A = ℕ} 0 1 = cc in omega arith)), λ t. t .0)
+event-pairs s (Clock t) event i r = ((λ h. (h, λ e. let distinct : _≡_ {A = ℕ} 0 1 = cc in omega arith)), λ t. t .0)

@@ -14,21 +14,21 @@ use Rattle.places.specs.declared.Side.{Side}
 use Rattle.rules.specs.Families.{wordAt, hasRole, sessionAt}
 use Rattle.rules.specs.declared.families.Rule.{Rule}
 use Rattle.rules.specs.declared.sessions.Session.{Session}
-use Rattle.selection.specs.Lowest.{lowest}
-use Rattle.selection.specs.Pairs.{endedPairs, pairCount}
+use Rattle.steps.specs.Lowest.{lowest}
+use Rattle.steps.specs.Pairs.{endedPairs, pairCount}
 use Rattle.selection.specs.Selection.{selects, selectedNumber}
 use Rattle.selection.specs.Ending.{lets}
-use Rattle.selection.specs.declared.actions.Action.{Action}
+use Rattle.steps.specs.declared.actions.Action.{Action}
 use Rattle.enforcement.specs.States.{isOpen, activeRole}
-use Rattle.enforcement.specs.Steps.{withActive, placed}
-use Rattle.enforcement.specs.Gate.{testsSelected, keeps, stays, remaining, refusedNext, requestNext}
+use Rattle.enforcement.specs.Steps.{withAssigned, withActive, placed}
+use Rattle.enforcement.specs.Gate.{testsSelected, refusedNext, requestNext}
+use Rattle.enforcement.specs.Rounds.{keeps, stays, remaining}
 use Rattle.enforcement.specs.declared.states.State.{State}
-use Rattle.enforcement.specs.declared.kinds.Effect.{Effect}
 use Rattle.enforcement.specs.declared.configurations.Configuration.{Configuration}
 use Rattle.enforcement.specs.declared.configurations.NextConfiguration.{NextConfiguration}
-use Rattle.enforcement.specs.declared.steps.Answer.{Answer}
-use Rattle.enforcement.specs.declared.steps.Answer.the-variants.{Granted, Refused}
-use Rattle.enforcement.specs.declared.steps.Next.{Next}
+use Rattle.steps.specs.declared.answers.Answer.{Answer}
+use Rattle.steps.specs.declared.answers.Answer.the-variants.{Granted, Refused}
+use Rattle.enforcement.specs.declared.states.Next.{Next}
 use Rattle.enforcement.specs.declared.events.Plan.{Plan}
 use Rattle.enforcement.specs.declared.events.Left.{Left}
 
@@ -68,39 +68,43 @@ pub record RuledOut (n : ℕ) (out : List ℕ) (sessions : List Session) (active
 
 -- ---- a step
 
--- a state by its fields
-abbrev pub stateFrom : ℕ → List ℕ → List ℕ → List Session → List ℕ → List ℕ → State
-stateFrom time assigned granted sessions active history =
-    record { time = time; assigned = assigned; granted = granted; sessions = sessions; active = active; history = history }
-
--- a state with an answer
-abbrev pub answered : State → Answer → Next
-answered s answer = record { state = s; answer = answer }
-
--- a state but for its history, a state by that and its history, and the same of what a step hands back
+-- a state but for its history, and a state by that and its history
 abbrev pub configurationOf : State → Configuration
 configurationOf s = record { time = s .time; assigned = s .assigned; granted = s .granted; sessions = s .sessions; active = s .active }
 
-abbrev pub stateOf : Configuration → List ℕ → State
-stateOf configuration history =
-    stateFrom (configuration .time) (configuration .assigned) (configuration .granted) (configuration .sessions) (configuration .active) history
+abbrev pub stateWith : Configuration → List ℕ → State
+stateWith configuration history =
+    record {
+      time = configuration .time;
+      assigned = configuration .assigned;
+      granted = configuration .granted;
+      sessions = configuration .sessions;
+      active = configuration .active;
+      history = history;
+    }
+
+-- what a step hands back, without the history and with it
+abbrev pub answered : Configuration → Answer → NextConfiguration
+answered configuration answer = record { configuration = configuration; answer = answer }
 
 abbrev pub nextOf : NextConfiguration → List ℕ → Next
-nextOf next history = answered (stateOf (next .configuration) history) (next .answer)
+nextOf next history = record { state = stateWith (next .configuration) history; answer = next .answer }
 
--- sessions and time as they were
-unfoldable pub keptEffect : List Session → ℕ → Answer → Effect
-keptEffect sessions time answer = record { session = 0; place = sessionAt sessions 0; time = time; answer = answer }
+-- other roles of one user, and of one session
+abbrev pub withUserRoles : ℕ → ℕ → State → State
+withUserRoles user roles s = withAssigned s (set (s .assigned) user roles)
 
--- an effect with the fields that are lent as the step leaves them, and the sessions as they were
-abbrev pub effectNext : Effect → List ℕ → List ℕ → List Session → List ℕ → List ℕ → Next
-effectNext effect assigned granted sessions active history =
-    answered (stateFrom (effect .time) assigned granted (set sessions (effect .session) (effect .place)) active history) (effect .answer)
+abbrev pub withSessionRoles : ℕ → ℕ → State → State
+withSessionRoles i roles s = withActive s (set (s .active) i roles)
 
 -- a request that has passed its checks, by its target
 unfoldable pub requestOf : List Rule → State → Action → State → Next
 requestOf rules s action after =
     requestNext (selectedNumber (selects action) rules) s after (lowest (testsSelected (selects action) after) 1 rules)
+
+-- the same by what it changes
+abbrev pub requestBy : List Rule → State → Action → (State → State) → Next
+requestBy rules s action change = requestOf rules s action (change s)
 
 -- an event that has passed its checks, by the pairs active before it and its target
 unfoldable pub eventOf : List Rule → List ℕ → State → Action → Next

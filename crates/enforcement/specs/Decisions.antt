@@ -4,7 +4,7 @@ use Prim.Native.Nat.{ℕ}
 use mathlib.Core.Path.{_≡_}
 use mathlib.Core.Bool.{Bool, true}
 use mathlib.Core.List.{List}
-use Rattle.selection.specs.Pairs.{Part}
+use Rattle.steps.specs.Pairs.{Part}
 use Rattle.enforcement.specs.Steps.{withActive}
 use Rattle.enforcement.specs.declared.states.State.{State}
 

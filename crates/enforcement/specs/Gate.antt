@@ -1,63 +1,31 @@
--- Our gate: it tests the selected rules alone. That this gives what the plain gate gives is proved in proofs/Agreement.antt, and that
--- what an event leaves is the largest part, in proofs/Ending.antt: no reader has to believe the rounds.
+-- Our gate: it tests the selected rules alone. That this gives what the plain gate gives is proved in proofs/Agreement.antt.
 -- Assumes nothing.
-use Prim.Native.Nat.{ℕ, suc}
+use Prim.Native.Nat.{ℕ}
 use mathlib.Core.Bool.{Bool, true, false, not, cond, _&&_, _||_}
 use mathlib.Core.List.{List, [], _∷_}
-use lib.Dec.{eqb}
-use Rattle.calendar.specs.Terms.{termHolds}
-use Rattle.places.specs.Places.{sideHolds}
-use Rattle.rules.specs.Families.{isActive}
-use Rattle.rules.specs.Acceptance.{every, rulesOf, listAccepted}
+use Rattle.rules.specs.Acceptance.{rulesOf, listAccepted}
 use Rattle.rules.specs.declared.families.Rule.{Rule}
-use Rattle.rules.specs.declared.families.Rule.the-variants.{Prerequisite, MaxUsers, MaxRoles, MaxPermissions, MaxActive, StaticSeparation, DynamicSeparation, Dependency, TimeContext, LocationContext, HistorySeparation, BindingOfDuty}
 use Rattle.rules.specs.declared.lists.RuleList.{RuleList}
-use Rattle.selection.specs.Lowest.{Lowest, unbroken, broken, lowest}
-use Rattle.selection.specs.Pairs.{endedPairs, pairCount}
+use Rattle.steps.specs.declared.lowest.Lowest.{Lowest}
+use Rattle.steps.specs.declared.lowest.Lowest.the-variants.{Unbroken, BrokenAt}
+use Rattle.steps.specs.Lowest.{lowest}
+use Rattle.steps.specs.Pairs.{endedPairs, pairCount}
 use Rattle.selection.specs.Selection.{selects, selectedNumber}
-use Rattle.selection.specs.Ending.{sifted, settled}
-use Rattle.selection.specs.declared.actions.Action.{Action}
-use Rattle.enforcement.specs.States.{positionOf, ruleHolds, stateAccepted}
-use Rattle.enforcement.specs.Steps.{actionOf, Checked, passes, refuses, check, target, withActive, isEvent}
+use Rattle.steps.specs.declared.actions.Action.{Action}
+use Rattle.enforcement.specs.States.{ruleHolds, stateAccepted}
+use Rattle.steps.specs.Steps.{actionOf, isEvent}
+use Rattle.enforcement.specs.Steps.{Checked, passes, refuses, check, target, withActive}
 use Rattle.enforcement.specs.Decisions.{Decision, granted, refused, Verdict}
+use Rattle.enforcement.specs.Rounds.{remaining}
 use Rattle.enforcement.specs.declared.states.State.{State}
-use Rattle.enforcement.specs.declared.steps.Step.{Step}
-use Rattle.enforcement.specs.declared.steps.Answer.{Answer}
-use Rattle.enforcement.specs.declared.steps.Answer.the-variants.{Granted, Broken, Refused}
-use Rattle.enforcement.specs.declared.steps.Next.{Next}
+use Rattle.steps.specs.declared.steps.Step.{Step}
+use Rattle.steps.specs.declared.answers.Answer.{Answer}
+use Rattle.steps.specs.declared.answers.Answer.the-variants.{Granted, Broken, Refused}
+use Rattle.enforcement.specs.declared.states.Next.{Next}
 
 -- a rule is not selected, or it holds in the state
 abbrev pub testsSelected : (Rule → Bool) → State → Rule → Bool
 testsSelected selected s rule = not (selected rule) || ruleHolds rule s
-
--- ---- "then active roles end until the rules hold, and no more than that"
-
--- a rule lets role r stay active in session i, where the pairs of a list are active
-unfoldable pub keeps : Rule → State → List ℕ → ℕ → ℕ → Bool
-keeps (Prerequisite a q) s l i r = true
-keeps (MaxUsers a n) s l i r = true
-keeps (MaxRoles n) s l i r = true
-keeps (MaxPermissions a n) s l i r = true
-keeps (MaxActive n) s l i r = true
-keeps (StaticSeparation a q) s l i r = true
-keeps (DynamicSeparation a q) s l i r = true
-keeps (Dependency a q) s l i r = not (eqb a r) || isActive l q
-keeps (TimeContext a term) s l i r = not (eqb a r) || termHolds term (s .time)
-keeps (LocationContext a side) s l i r = not (eqb a r) || sideHolds side (positionOf s i)
-keeps (HistorySeparation p q) s l i r = true
-keeps (BindingOfDuty p q) s l i r = true
-
--- every selected rule lets the role stay
-abbrev pub stays : (Rule → Bool) → List Rule → State → List ℕ → ℕ → ℕ → Bool
-stays selected rules s l i r = every (λ rule. not (selected rule) || keeps rule s l i r) rules
-
--- one round
-unfoldable pub round : (Rule → Bool) → List Rule → State → List ℕ → List ℕ
-round selected rules s l = sifted 0 (stays selected rules s l) l
-
--- what is left of a state's active pairs
-unfoldable pub remaining : (Rule → Bool) → List Rule → State → List ℕ
-remaining selected rules s = settled (suc (pairCount (s .active))) (round selected rules s) (s .active)
 
 -- ---- a step
 
@@ -70,8 +38,8 @@ refusedNext s answer = record { state = s; answer = answer }
 
 -- "A 30 carries the lowest broken rule and the number selected."
 unfoldable pub requestNext : ℕ → State → State → Lowest → Next
-requestNext selected s after unbroken = grantedNext selected s after
-requestNext selected s after (broken rule) = refusedNext s (Broken rule selected)
+requestNext selected s after Unbroken = grantedNext selected s after
+requestNext selected s after (BrokenAt rule) = refusedNext s (Broken rule selected)
 
 unfoldable pub passedNext : Bool → List Rule → State → Action → Next
 passedNext false rules s action =
@@ -103,10 +71,10 @@ decisionOf (Granted selected ended) = granted
 decisionOf (Broken rule selected) = refused 30
 decisionOf (Refused number) = refused number
 
-abbrev pub ruleOf : Answer → ℕ
-ruleOf (Granted selected ended) = 0
-ruleOf (Broken rule selected) = rule
-ruleOf (Refused number) = 0
+abbrev pub namedRule : Answer → ℕ
+namedRule (Granted selected ended) = 0
+namedRule (Broken rule selected) = rule
+namedRule (Refused number) = 0
 
 -- "Other refusals carry 0 and 0."
 abbrev pub selectedOf : Answer → ℕ
@@ -124,7 +92,7 @@ abbrev pub compared : State → Next → Verdict
 compared before next =
     record {
       decision = decisionOf (next .answer);
-      rule = ruleOf (next .answer);
+      rule = namedRule (next .answer);
       ended = endedPairs (before .active) (next .state .active);
       endedNumber = endedOf (next .answer);
       state = next .state;

@@ -2,10 +2,11 @@ pub mod States
 pub mod Steps
 pub mod Decisions
 pub mod Plain
+pub mod Rounds
 pub mod Gate
 pub mod Reached
+pub mod Claims
 pub mod Narrow
-pub mod Table
+pub mod Causes
 pub mod Deciding
-pub mod Words
 pub mod Runs

@@ -9,14 +9,17 @@ use lib.Dec.{eqb}
 use Rattle.sets.specs.Sets.{subset}
 use Rattle.rules.specs.Acceptance.{every}
 use Rattle.rules.specs.declared.families.Rule.{Rule}
-use Rattle.selection.specs.Lowest.{Lowest, unbroken, broken, lowest}
-use Rattle.selection.specs.Pairs.{endedPairs, pairCount}
-use Rattle.selection.specs.declared.actions.Action.{Action}
+use Rattle.steps.specs.declared.lowest.Lowest.{Lowest}
+use Rattle.steps.specs.declared.lowest.Lowest.the-variants.{Unbroken, BrokenAt}
+use Rattle.steps.specs.Lowest.{lowest}
+use Rattle.steps.specs.Pairs.{endedPairs, pairCount}
+use Rattle.steps.specs.declared.actions.Action.{Action}
 use Rattle.enforcement.specs.States.{ruleHolds}
-use Rattle.enforcement.specs.Steps.{actionOf, Checked, passes, refuses, check, target, withActive, isEvent}
+use Rattle.steps.specs.Steps.{actionOf, isEvent}
+use Rattle.enforcement.specs.Steps.{Checked, passes, refuses, check, target, withActive}
 use Rattle.enforcement.specs.Decisions.{Largest, Decision, granted, refused, Verdict}
 use Rattle.enforcement.specs.declared.states.State.{State}
-use Rattle.enforcement.specs.declared.steps.Step.{Step}
+use Rattle.steps.specs.declared.steps.Step.{Step}
 
 -- every rule holds
 abbrev pub obeys : List Rule → State → Bool
@@ -43,9 +46,9 @@ pub data Plain (rules : List Rule) (s : State) (action : Action) : Verdict → T
   -- "It makes the same checks before 30; if one refuses, it keeps the old state."
   refusing : (number : ℕ) → check s action ≡ refuses number → Plain rules s action (verdict s (refused number) 0 s)
   -- "For a request .. it tests every rule over the whole target; if any is broken it answers 30 with the lowest and keeps the old state"
-  breaking : (rule : ℕ) → check s action ≡ passes → isEvent action ≡ false → lowestBroken rules (target s action) ≡ broken rule → Plain rules s action (verdict s (refused 30) rule s)
+  breaking : (rule : ℕ) → check s action ≡ passes → isEvent action ≡ false → lowestBroken rules (target s action) ≡ BrokenAt rule → Plain rules s action (verdict s (refused 30) rule s)
   -- "else it takes the target"
-  taking : check s action ≡ passes → isEvent action ≡ false → lowestBroken rules (target s action) ≡ unbroken → Plain rules s action (verdict s granted 0 (target s action))
+  taking : check s action ≡ passes → isEvent action ≡ false → lowestBroken rules (target s action) ≡ Unbroken → Plain rules s action (verdict s granted 0 (target s action))
   -- "For an event it keeps the largest part of the target's active pairs under which every rule holds"
   ending : (l : List ℕ) → check s action ≡ passes → isEvent action ≡ true → Largest (obeys rules) (target s action) l → Plain rules s action (verdict s granted 0 (withActive (target s action) l))
 
@@ -104,8 +107,8 @@ unfoldable pub largestPart : (State → Bool) → State → List ℕ
 largestPart test s = firstList (isLargest test s) (parts (s .active))
 
 unfoldable pub plainRequest : State → State → Lowest → Verdict
-plainRequest s after unbroken = verdict s granted 0 after
-plainRequest s after (broken rule) = verdict s (refused 30) rule s
+plainRequest s after Unbroken = verdict s granted 0 after
+plainRequest s after (BrokenAt rule) = verdict s (refused 30) rule s
 
 unfoldable pub plainPassed : Bool → List Rule → State → State → Verdict
 plainPassed false rules s after = plainRequest s after (lowestBroken rules after)

@@ -4,12 +4,14 @@ use Prim.Native.Nat.{ℕ, _^_, _<_}
 use mathlib.Core.Path.{_≡_}
 use mathlib.Core.Bool.{true}
 use lib.ListN.{length}
+use Rattle.rules.specs.Acceptance.{rulesOf}
 use Rattle.rules.specs.Families.{wordAt}
 use Rattle.rules.specs.declared.lists.RuleList.{RuleList}
 use Rattle.enforcement.specs.States.{fresh, activeRole, holdsRole, userOf, stateAccepted}
+use Rattle.enforcement.specs.Plain.{obeys}
 use Rattle.enforcement.specs.Gate.{stepOf}
 use Rattle.enforcement.specs.declared.states.State.{State}
-use Rattle.enforcement.specs.declared.steps.Step.{Step}
+use Rattle.steps.specs.declared.steps.Step.{Step}
 
 -- what the declared type says of each of its values: the arrays' lengths, and that a word has 32 or 64 digits
 pub record Typed (s : State) : Type 0 where
@@ -37,3 +39,9 @@ pub data Reached (list : RuleList) (Read : State → Type 0) : State → Type 0 
   start : Reached list Read fresh
   read : {s : State} → Read s → Reached list Read s
   stepped : {s : State} (step : Step) → Reached list Read s → Reached list Read (stepOf list s step .state)
+
+-- what is claimed of every reached state: 40 does not refuse it, its active roles are held, and it obeys the rules
+pub record Good (list : RuleList) (s : State) : Type 0 where
+  pub accepted : Accepted s
+  pub held : Held s
+  pub obeyed : obeys (rulesOf list) s ≡ true

@@ -3,7 +3,7 @@
 use Prim.Native.Nat.{ℕ}
 use mathlib.Core.Bool.{Bool, true, false, cond, _&&_}
 use mathlib.Core.List.{List}
-use lib.Dec.{eqb, ltb, leb}
+use lib.Dec.{eqb, ltb}
 use lib.ListN.{replicate}
 use Rattle.sets.specs.Sets.{member, isEmpty, all}
 use Rattle.places.specs.Places.{positionInRange}
@@ -12,6 +12,7 @@ use Rattle.places.specs.declared.Position.the-variants.{Unknown, Known}
 use Rattle.rules.specs.Families.{View, view, wordAt, hasRole, closedSession, sessionAt, permissionsOf, hasDone, holds}
 use Rattle.rules.specs.declared.families.Rule.{Rule}
 use Rattle.rules.specs.declared.sessions.Session.{Session}
+use Rattle.steps.specs.Steps.{isTime}
 use Rattle.enforcement.specs.declared.states.State.{State}
 
 -- "Fresh: time 0, all else empty."
@@ -76,10 +77,6 @@ ruleHolds rule s = holds rule (viewOf s)
 abbrev pub isUnknown : Position → Bool
 isUnknown Unknown = true
 isUnknown (Known point) = false
-
--- "Time t: .. 0 to 3,155,759,999"
-abbrev pub isTime : ℕ → Bool
-isTime t = leb t 3155759999
 
 -- an open session has a user and a position in range; a closed one has user 0, no position and no active role
 unfoldable pub sessionAccepted : Session → ℕ → Bool

@@ -1,56 +1,19 @@
--- Document 01, 'State and steps': a step's numbers (20), its checks in the table's order, and its target.
+-- Document 01, 'State and steps': a step's checks in the table's order, and its target.
 -- Assumes nothing.
 use Prim.Native.Nat.{ℕ, zero, suc, _+_, _*_}
-use mathlib.Core.Bool.{Bool, true, false, not, cond, _&&_}
+use mathlib.Core.Bool.{Bool, true, false, not, _&&_}
 use mathlib.Core.List.{List}
-use lib.Dec.{eqb, ltb}
+use lib.Dec.{ltb}
 use lib.ListN.{set}
-use lib.IntN.{ℤ, pos}
 use Rattle.sets.specs.Sets.{with, without, any}
-use Rattle.places.specs.Places.{onGrid}
 use Rattle.places.specs.declared.Position.{Position}
 use Rattle.places.specs.declared.Position.the-variants.{Unknown, Known}
 use Rattle.rules.specs.Families.{wordAt, closedSession, isActiveFor}
 use Rattle.rules.specs.declared.sessions.Session.{Session}
-use Rattle.selection.specs.declared.actions.Action.{Action}
-use Rattle.selection.specs.declared.actions.Action.the-variants.{Malformed, Assign, Withdraw, Grant, Take, Open, Activate, Deactivate, Access, Finish, Close, Move, Lost, Clock}
-use Rattle.enforcement.specs.States.{assignedRole, holdsRole, carries, isOpen, userOf, activeRole, isTime}
+use Rattle.steps.specs.declared.actions.Action.{Action}
+use Rattle.steps.specs.declared.actions.Action.the-variants.{Malformed, Assign, Withdraw, Grant, Take, Open, Activate, Deactivate, Access, Finish, Close, Move, Lost, Clock}
+use Rattle.enforcement.specs.States.{assignedRole, holdsRole, carries, isOpen, userOf, activeRole}
 use Rattle.enforcement.specs.declared.states.State.{State}
-use Rattle.enforcement.specs.declared.steps.Step.{Step}
-
--- ---- "step's number, its kind's included, outside its range" is 20
-
-abbrev pub ranged : Bool → Action → Action
-ranged inRange action = cond inRange action Malformed
-
-abbrev pub moveOf : ℕ → ℤ → ℤ → Action
-moveOf i x y = ranged (ltb i 32 && (onGrid x && onGrid y)) (Move i (record { x = x; y = y }))
-
--- "Users u 0 to 63, roles r 0 to 31, permissions p 0 to 31, sessions s 0 to 31, objects o 0 to 31"; kinds 0 to 12 in the table's
--- order; numbers that a kind does not use are not looked at
-unfoldable pub actionOf : Step → Action
-actionOf step =
-    cond (eqb (step .kind) 0) (ranged (ltb (step .first) 64 && ltb (step .second) 32) (Assign (step .first) (step .second)))
-    (cond (eqb (step .kind) 1) (ranged (ltb (step .first) 64 && ltb (step .second) 32) (Withdraw (step .first) (step .second)))
-    (cond (eqb (step .kind) 2) (ranged (ltb (step .first) 32 && ltb (step .second) 32) (Grant (step .first) (step .second)))
-    (cond (eqb (step .kind) 3) (ranged (ltb (step .first) 32 && ltb (step .second) 32) (Take (step .first) (step .second)))
-    (cond (eqb (step .kind) 4) (ranged (ltb (step .first) 32 && ltb (step .second) 64) (Open (step .first) (step .second)))
-    (cond (eqb (step .kind) 5) (ranged (ltb (step .first) 32 && ltb (step .second) 32) (Activate (step .first) (step .second)))
-    (cond (eqb (step .kind) 6) (ranged (ltb (step .first) 32 && ltb (step .second) 32) (Deactivate (step .first) (step .second)))
-    (cond (eqb (step .kind) 7) (ranged (ltb (step .first) 32 && (ltb (step .second) 32 && ltb (step .third) 32)) (Access (step .first) (step .second) (step .third)))
-    (cond (eqb (step .kind) 8) (ranged (ltb (step .first) 32) (Finish (step .first)))
-    (cond (eqb (step .kind) 9) (ranged (ltb (step .first) 32) (Close (step .first)))
-    (cond (eqb (step .kind) 10) (moveOf (step .first) (step .x) (step .y))
-    (cond (eqb (step .kind) 11) (ranged (ltb (step .first) 32) (Lost (step .first)))
-    (cond (eqb (step .kind) 12) (ranged (isTime (step .first)) (Clock (step .first))) Malformed))))))))))))
-
--- ---- a step by its kind's number: one that has no coordinates, and a move
-
-abbrev pub numbered : ℕ → ℕ → ℕ → ℕ → Step
-numbered kind first second third = record { kind = kind; first = first; second = second; third = third; x = pos 0; y = pos 0 }
-
-abbrev pub moved : ℕ → ℤ → ℤ → Step
-moved session x y = record { kind = 10; first = session; second = 0; third = 0; x = x; y = y }
 
 -- ---- the table's second column: "Checks run in the order given", those before 30
 
@@ -143,20 +106,3 @@ target s (Move i point) = placed s i (Known point)
 target s (Lost i) = placed s i Unknown
 -- "clock sets the time"
 target s (Clock t) = withTime s t
-
--- "The last three rows (close, move and lost, clock) are events."
-abbrev pub isEvent : Action → Bool
-isEvent Malformed = false
-isEvent (Assign u r) = false
-isEvent (Withdraw u r) = false
-isEvent (Grant r p) = false
-isEvent (Take r p) = false
-isEvent (Open i u) = false
-isEvent (Activate i r) = false
-isEvent (Deactivate i r) = false
-isEvent (Access i p o) = false
-isEvent (Finish o) = false
-isEvent (Close i) = true
-isEvent (Move i point) = true
-isEvent (Lost i) = true
-isEvent (Clock t) = true

@@ -3,9 +3,11 @@ ghost use mathlib.Core.Path.{_≡_};
 ghost use Rattle.enforcement.specs.States.{isUnknown, sessionAccepted, stateAccepted};
 ghost use Rattle.enforcement.specs.Deciding.{context};
 use crate::states::State;
+use calendar::Term;
 use places::Position;
 use rules::Session;
 use sets::word32;
+use steps::Step;
 
 impl State {
     // 40 does not refuse the state.
@@ -22,7 +24,7 @@ impl State {
 pub(crate) fn is_accepted(sessions: [Session; 32], active: &[u32; 32], time: u64) -> bool
     ensures { λ r. ⌜ r ≡ stateAccepted (context sessions (now (active .entry)) time) ⌝ }
 {
-    if State::LAST_TIME < time {
+    if Term::LAST_TIME < time {
         return false;
     }
     let mut i: usize = 0;
@@ -43,7 +45,7 @@ fn session_accepted(session: Session, roles: u32) -> bool
 {
     let position = session.position;
     if session.is_open {
-        return (session.user < 64) & position.in_range();
+        return ((session.user as usize) < Step::USERS) & position.in_range();
     }
     (session.user == 0) & (is_unknown(position) & word32::is_empty(roles))
 }

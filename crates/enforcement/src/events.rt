@@ -1,7 +1,9 @@
-// What an event ends: one pass over the rules makes a plan, then rounds on sets of roles until nothing changes.
+// The events, with numbers in range: each makes its change, then the roles end that the rules want ended. One pass over the rules makes a plan,
+// and rounds on sets of roles follow it until nothing changes.
 ghost use mathlib.Core.Path.{_≡_};
 ghost use mathlib.Core.Bool.{true, not, _&&_};
-ghost use Prim.Native.Nat.{_<_, _≤_};
+ghost use mathlib.Core.List.{List};
+ghost use Prim.Native.Nat.{ℕ, _<_, _≤_};
 ghost use lib.ListN.{length};
 ghost use Rattle.sets.specs.Sets.{member, unionOf};
 ghost use Rattle.places.specs.Places.{sideHolds};
@@ -9,20 +11,110 @@ ghost use Rattle.rules.specs.Acceptance.{rulesOf};
 ghost use Rattle.rules.specs.Families.{wordAt};
 ghost use Rattle.selection.specs.Selection.{selects};
 ghost use Rattle.selection.specs.Choices.{chosen};
-ghost use Rattle.enforcement.specs.Deciding.{context, leftOf, Planned, Adds, RuledOut, countedPlan};
+ghost use Rattle.enforcement.specs.Gate.{decide};
+ghost use Rattle.enforcement.specs.Deciding.{stateWith, nextOf, eventOf, placedOf, context, leftOf, Planned, Adds, RuledOut, countedPlan};
+use crate::configurations::Configuration;
+use crate::configurations::NextConfiguration;
+use places::Point;
 use places::Position;
 use places::Side;
 use rules::Rule;
 use rules::RuleList;
 use rules::Session;
 use rules::tests::active_somewhere;
-use selection::Action;
 use selection::Choice;
-use selection::rounds::settled;
+use selection::rounds::plan_settled;
 use selection::selection::choice_of;
 use selection::selection::first_of;
 use selection::selection::is_chosen;
 use sets::word32;
+use steps::Action;
+use steps::pairs::ended;
+
+impl Configuration {
+    pub(crate) fn close(mut self, list: RuleList, session: usize) -> NextConfiguration
+        requires { ⌜ (list .length ≤ 128) × (session < 32) ⌝ }
+        ensures { λ r. ⌜ ((history : List ℕ) → nextOf r history ≡ decide (rulesOf list) (stateWith self history) (Action.Close session)) ⌝ }
+    {
+        let place = self.sessions[session];
+        if !place.is_open {
+            return self.refused(23);
+        }
+        let before = self.active;
+        self.sessions[session] = Session {
+            is_open: false,
+            user: 0,
+            position: Position::Unknown,
+        };
+        self.active[session] = 0;
+        self.after_event(list, Action::Close { session }, before)
+    }
+
+    pub(crate) fn move_to(self, list: RuleList, session: usize, point: Point) -> NextConfiguration
+        requires { ⌜ (list .length ≤ 128) × (session < 32) ⌝ }
+        ensures { λ r. ⌜ ((history : List ℕ) → nextOf r history ≡ decide (rulesOf list) (stateWith self history) (Action.Move session point)) ⌝ }
+    {
+        let action = Action::Move { session, point };
+        self.placed(list, action, session, Position::Known(point))
+    }
+
+    pub(crate) fn lost(self, list: RuleList, session: usize) -> NextConfiguration
+        requires { ⌜ (list .length ≤ 128) × (session < 32) ⌝ }
+        ensures { λ r. ⌜ ((history : List ℕ) → nextOf r history ≡ decide (rulesOf list) (stateWith self history) (Action.Lost session)) ⌝ }
+    {
+        self.placed(list, Action::Lost { session }, session, Position::Unknown)
+    }
+
+    // move and lost
+    fn placed(
+        mut self,
+        list: RuleList,
+        action: Action,
+        session: usize,
+        position: Position,
+    ) -> NextConfiguration
+        requires { ⌜ (list .length ≤ 128) × (session < 32) ⌝ }
+        ensures { λ r. ⌜ ((history : List ℕ) → nextOf r history ≡ placedOf (rulesOf list) (stateWith self history) action session position) ⌝ }
+    {
+        let place = self.sessions[session];
+        if !place.is_open {
+            return self.refused(23);
+        }
+        let before = self.active;
+        self.sessions[session] = Session {
+            is_open: true,
+            user: place.user,
+            position,
+        };
+        self.after_event(list, action, before)
+    }
+
+    pub(crate) fn clock(mut self, list: RuleList, time: u64) -> NextConfiguration
+        requires { ⌜ list .length ≤ 128 ⌝ }
+        ensures { λ r. ⌜ ((history : List ℕ) → nextOf r history ≡ decide (rulesOf list) (stateWith self history) (Action.Clock time)) ⌝ }
+    {
+        if time < self.time {
+            return self.refused(21);
+        }
+        let before = self.active;
+        self.time = time;
+        self.after_event(list, Action::Clock { time }, before)
+    }
+
+    // An event's target, with the roles ended that the rules want ended.
+    fn after_event(mut self, list: RuleList, action: Action, before: [u32; 32]) -> NextConfiguration
+        requires { ⌜ (list .length ≤ 128) × (length before ≡ 32) ⌝ }
+        ensures { λ r. ⌜ ((history : List ℕ) → nextOf r history ≡ eventOf (rulesOf list) before (stateWith self history) action) ⌝ }
+    {
+        let sessions = self.sessions;
+        let time = self.time;
+        let left = end_roles(list, action, sessions, &self.active, time);
+        let kept = left.active;
+        let total = ended(before, kept);
+        self.active = kept;
+        self.granted(left.selected, total)
+    }
+}
 
 // What the selected rules say of each pair, whatever else is active.
 pub struct Plan {
@@ -41,7 +133,7 @@ pub struct Left {
     pub selected: usize,
 }
 
-pub(crate) fn end_roles(
+fn end_roles(
     list: RuleList,
     action: Action,
     sessions: [Session; 32],
@@ -55,7 +147,7 @@ pub(crate) fn end_roles(
     let dead = plan.dead;
     let out = plan.out;
     let needs = plan.needs;
-    let kept = settled(copied(active), out, needs, dead);
+    let kept = plan_settled(copied(active), out, needs, dead);
     Left {
         active: kept,
         selected: plan.selected,
@@ -222,7 +314,7 @@ fn is_misplaced(roles: u32, role: usize, side: Side, position: Position) -> bool
 }
 
 // The sets by value: then each is known to fit its word.
-pub(crate) fn copied(active: &[u32; 32]) -> [u32; 32]
+fn copied(active: &[u32; 32]) -> [u32; 32]
     ensures { λ r. ⌜ r ≡ now (active .entry) ⌝ }
 {
     *active

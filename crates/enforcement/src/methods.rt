@@ -1,182 +1,82 @@
 // A step of each kind by its own name: the state by value, the next one and the answer handed back. The numbers are as a text can hold
 // them; 40 and 20 come first, as for every step.
 ghost use mathlib.Core.Path.{_≡_};
-ghost use Rattle.enforcement.specs.Steps.{numbered, moved};
+ghost use Rattle.steps.specs.Steps.{numbered, moved};
 ghost use Rattle.enforcement.specs.Gate.{stepOf};
+use crate::states::Next;
 use crate::states::State;
-use crate::steps::Next;
-use crate::steps::Step;
 use rules::RuleList;
+use steps::Step;
 
 impl State {
     // assign u r
     pub fn assign(self, list: RuleList, user: u64, role: u64) -> Next
         ensures { λ r. ⌜ r ≡ stepOf list self (numbered 0 user role 0) ⌝ }
     {
-        self.step(
-            list,
-            Step {
-                kind: Step::ASSIGN,
-                first: user,
-                second: role,
-                third: 0,
-                x: 0,
-                y: 0,
-            },
-        )
+        self.numbered(list, Step::ASSIGN, user, role, 0)
     }
 
     // withdraw u r
     pub fn withdraw(self, list: RuleList, user: u64, role: u64) -> Next
         ensures { λ r. ⌜ r ≡ stepOf list self (numbered 1 user role 0) ⌝ }
     {
-        self.step(
-            list,
-            Step {
-                kind: Step::WITHDRAW,
-                first: user,
-                second: role,
-                third: 0,
-                x: 0,
-                y: 0,
-            },
-        )
+        self.numbered(list, Step::WITHDRAW, user, role, 0)
     }
 
     // grant r p
     pub fn grant(self, list: RuleList, role: u64, permission: u64) -> Next
         ensures { λ r. ⌜ r ≡ stepOf list self (numbered 2 role permission 0) ⌝ }
     {
-        self.step(
-            list,
-            Step {
-                kind: Step::GRANT,
-                first: role,
-                second: permission,
-                third: 0,
-                x: 0,
-                y: 0,
-            },
-        )
+        self.numbered(list, Step::GRANT, role, permission, 0)
     }
 
     // take r p
     pub fn take(self, list: RuleList, role: u64, permission: u64) -> Next
         ensures { λ r. ⌜ r ≡ stepOf list self (numbered 3 role permission 0) ⌝ }
     {
-        self.step(
-            list,
-            Step {
-                kind: Step::TAKE,
-                first: role,
-                second: permission,
-                third: 0,
-                x: 0,
-                y: 0,
-            },
-        )
+        self.numbered(list, Step::TAKE, role, permission, 0)
     }
 
     // open s u
     pub fn open_session(self, list: RuleList, session: u64, user: u64) -> Next
         ensures { λ r. ⌜ r ≡ stepOf list self (numbered 4 session user 0) ⌝ }
     {
-        self.step(
-            list,
-            Step {
-                kind: Step::OPEN,
-                first: session,
-                second: user,
-                third: 0,
-                x: 0,
-                y: 0,
-            },
-        )
+        self.numbered(list, Step::OPEN, session, user, 0)
     }
 
     // activate s r
     pub fn activate(self, list: RuleList, session: u64, role: u64) -> Next
         ensures { λ r. ⌜ r ≡ stepOf list self (numbered 5 session role 0) ⌝ }
     {
-        self.step(
-            list,
-            Step {
-                kind: Step::ACTIVATE,
-                first: session,
-                second: role,
-                third: 0,
-                x: 0,
-                y: 0,
-            },
-        )
+        self.numbered(list, Step::ACTIVATE, session, role, 0)
     }
 
     // deactivate s r
     pub fn deactivate(self, list: RuleList, session: u64, role: u64) -> Next
         ensures { λ r. ⌜ r ≡ stepOf list self (numbered 6 session role 0) ⌝ }
     {
-        self.step(
-            list,
-            Step {
-                kind: Step::DEACTIVATE,
-                first: session,
-                second: role,
-                third: 0,
-                x: 0,
-                y: 0,
-            },
-        )
+        self.numbered(list, Step::DEACTIVATE, session, role, 0)
     }
 
     // access s p o
     pub fn access(self, list: RuleList, session: u64, permission: u64, object: u64) -> Next
         ensures { λ r. ⌜ r ≡ stepOf list self (numbered 7 session permission object) ⌝ }
     {
-        self.step(
-            list,
-            Step {
-                kind: Step::ACCESS,
-                first: session,
-                second: permission,
-                third: object,
-                x: 0,
-                y: 0,
-            },
-        )
+        self.numbered(list, Step::ACCESS, session, permission, object)
     }
 
     // finish o
     pub fn finish(self, list: RuleList, object: u64) -> Next
         ensures { λ r. ⌜ r ≡ stepOf list self (numbered 8 object 0 0) ⌝ }
     {
-        self.step(
-            list,
-            Step {
-                kind: Step::FINISH,
-                first: object,
-                second: 0,
-                third: 0,
-                x: 0,
-                y: 0,
-            },
-        )
+        self.numbered(list, Step::FINISH, object, 0, 0)
     }
 
     // close s
     pub fn close(self, list: RuleList, session: u64) -> Next
         ensures { λ r. ⌜ r ≡ stepOf list self (numbered 9 session 0 0) ⌝ }
     {
-        self.step(
-            list,
-            Step {
-                kind: Step::CLOSE,
-                first: session,
-                second: 0,
-                third: 0,
-                x: 0,
-                y: 0,
-            },
-        )
+        self.numbered(list, Step::CLOSE, session, 0, 0)
     }
 
     // move s x y
@@ -200,30 +100,27 @@ impl State {
     pub fn lost(self, list: RuleList, session: u64) -> Next
         ensures { λ r. ⌜ r ≡ stepOf list self (numbered 11 session 0 0) ⌝ }
     {
-        self.step(
-            list,
-            Step {
-                kind: Step::LOST,
-                first: session,
-                second: 0,
-                third: 0,
-                x: 0,
-                y: 0,
-            },
-        )
+        self.numbered(list, Step::LOST, session, 0, 0)
     }
 
     // clock t
     pub fn clock(self, list: RuleList, time: u64) -> Next
         ensures { λ r. ⌜ r ≡ stepOf list self (numbered 12 time 0 0) ⌝ }
     {
+        self.numbered(list, Step::CLOCK, time, 0, 0)
+    }
+
+    // A step that has no coordinates, by its kind's number.
+    fn numbered(self, list: RuleList, kind: u64, first: u64, second: u64, third: u64) -> Next
+        ensures { λ r. ⌜ r ≡ stepOf list self (numbered kind first second third) ⌝ }
+    {
         self.step(
             list,
             Step {
-                kind: Step::CLOCK,
-                first: time,
-                second: 0,
-                third: 0,
+                kind,
+                first,
+                second,
+                third,
                 x: 0,
                 y: 0,
             },

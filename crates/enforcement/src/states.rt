@@ -1,16 +1,19 @@
 // The state: who is assigned what, which role carries which permission, the sessions, and who did what on which object.
 ghost use mathlib.Core.Path.{_≡_};
-ghost use Rattle.enforcement.specs.States.{fresh};
+ghost use mathlib.Core.Bool.{true};
+ghost use Rattle.rules.specs.Acceptance.{rulesOf, listAccepted};
+ghost use Rattle.steps.specs.Steps.{actionOf};
+ghost use Rattle.enforcement.specs.States.{fresh, stateAccepted};
+ghost use Rattle.enforcement.specs.Narrow.{Narrow};
 ghost use Rattle.enforcement.specs.Gate.{refusedNext, stepOf};
 ghost use Rattle.enforcement.specs.Deciding.{configurationOf};
 use crate::acceptance::is_accepted;
 use crate::configurations::Configuration;
-use crate::steps::Answer;
-use crate::steps::Next;
-use crate::steps::Step;
 use places::Position;
 use rules::RuleList;
 use rules::Session;
+use steps::Answer;
+use steps::Step;
 
 pub struct State {
     pub time: u64,
@@ -25,20 +28,13 @@ pub struct State {
     pub history: [u64; 1024],
 }
 
+// The next state and the answer.
+pub struct Next {
+    pub state: State,
+    pub answer: Answer,
+}
+
 impl State {
-    pub const USERS: usize = 64;
-
-    pub const ROLES: usize = 32;
-
-    pub const PERMISSIONS: usize = 32;
-
-    pub const SESSIONS: usize = 32;
-
-    pub const OBJECTS: usize = 32;
-
-    // The last second of 2099.
-    pub const LAST_TIME: u64 = 3_155_759_999;
-
     // Time 0, all else empty.
     pub fn fresh() -> Self
         ensures { λ r. ⌜ r ≡ fresh ⌝ }
@@ -57,9 +53,11 @@ impl State {
         }
     }
 
-    // One step: 40 and 20 first, then its checks and rules.
+    // One step: 40 and 20 first, then its checks and rules. Where 40 refuses neither list nor state, it is what document 01 says with the
+    // selected rules alone.
     pub fn step(self, list: RuleList, step: Step) -> Next
-        ensures { λ r. ⌜ r ≡ stepOf list self step ⌝ }
+        ensures given { λ r. ⌜ r ≡ stepOf list self step ⌝ }
+        ensures narrow { λ r. ⌜ (listAccepted list ≡ true → stateAccepted self ≡ true → Narrow (rulesOf list) self (actionOf step) r) ⌝ }
     {
         if !list.is_accepted() {
             return self.refused(40);

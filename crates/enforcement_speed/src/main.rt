@@ -5,17 +5,17 @@
 ghost use mathlib.Core.Path.{_≡_};
 ghost use Prim.Native.Nat.{_≤_};
 ghost use lib.ListN.{length, take};
-ghost use Rattle.enforcement.specs.Runs.{ranOf, writtenOf};
+ghost use Rattle.enforcement.specs.Runs.{ranOf, entriesWritten};
 use calendar::Term;
 use enforcement::Ran;
 use enforcement::Session;
 use enforcement::State;
-use enforcement::Step;
 use places::Shape;
 use places::Side;
 use rules::Rule;
 use rules::RuleList;
 use rules::Slot;
+use steps::Step;
 
 // The state, the generator's seed and the checksum after some batches.
 struct Going {
@@ -126,7 +126,7 @@ fn with_batch(going: Going, list: RuleList, which: u64, number: u64, is_run: boo
 // The first n steps, lent to `run`.
 fn run_batch(steps: [Step; 256], n: usize, list: RuleList, state: State, answers: &mut [u64]) -> Ran
     requires { ⌜ n ≤ 256 ⌝ }
-    ensures { λ r. ⌜ (r ≡ ranOf list state (take n steps) (length (now (answers .entry)))) × (now (answers .exit) ≡ writtenOf list state (take n steps) (now (answers .entry))) ⌝ }
+    ensures { λ r. ⌜ (r ≡ ranOf list state (take n steps) (length (now (answers .entry)))) × (now (answers .exit) ≡ entriesWritten list state (take n steps) (now (answers .entry))) ⌝ }
 {
     enforcement::run(list, state, &steps[..n], answers)
 }

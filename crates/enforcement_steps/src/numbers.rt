@@ -1,9 +1,9 @@
 // Each number at the end of its range and past it (20), under no rules.
+use crate::kinds;
 use crate::lists;
 use crate::showing::show_time;
 use crate::showing::shown;
 use crate::showing::shown_move;
-use crate::steps;
 use enforcement::State;
 
 pub(crate) fn all() {
@@ -21,65 +21,65 @@ pub(crate) fn all() {
 
 fn assignments(state: State) -> State {
     let list = lists::empty();
-    let state = shown(state, list, steps::assign(0, 0));
-    let state = shown(state, list, steps::assign(63, 31));
-    let state = shown(state, list, steps::assign(64, 0));
-    let state = shown(state, list, steps::assign(0, 32));
-    let state = shown(state, list, steps::assign(18446744073709551615, 0));
-    let state = shown(state, list, steps::withdraw(63, 31));
-    let state = shown(state, list, steps::withdraw(64, 0));
-    let state = shown(state, list, steps::withdraw(0, 32));
-    shown(state, list, steps::withdraw(0, 0))
+    let state = shown(state, list, kinds::assign(0, 0));
+    let state = shown(state, list, kinds::assign(63, 31));
+    let state = shown(state, list, kinds::assign(64, 0));
+    let state = shown(state, list, kinds::assign(0, 32));
+    let state = shown(state, list, kinds::assign(18446744073709551615, 0));
+    let state = shown(state, list, kinds::withdraw(63, 31));
+    let state = shown(state, list, kinds::withdraw(64, 0));
+    let state = shown(state, list, kinds::withdraw(0, 32));
+    shown(state, list, kinds::withdraw(0, 0))
 }
 
 fn permissions(state: State) -> State {
     let list = lists::empty();
-    let state = shown(state, list, steps::grant(0, 0));
-    let state = shown(state, list, steps::grant(31, 31));
-    let state = shown(state, list, steps::grant(32, 0));
-    let state = shown(state, list, steps::grant(0, 32));
-    let state = shown(state, list, steps::take(31, 31));
-    let state = shown(state, list, steps::take(32, 0));
-    let state = shown(state, list, steps::take(0, 32));
-    shown(state, list, steps::take(0, 0))
+    let state = shown(state, list, kinds::grant(0, 0));
+    let state = shown(state, list, kinds::grant(31, 31));
+    let state = shown(state, list, kinds::grant(32, 0));
+    let state = shown(state, list, kinds::grant(0, 32));
+    let state = shown(state, list, kinds::take(31, 31));
+    let state = shown(state, list, kinds::take(32, 0));
+    let state = shown(state, list, kinds::take(0, 32));
+    shown(state, list, kinds::take(0, 0))
 }
 
 fn sessions(state: State) -> State {
     let list = lists::empty();
-    let state = shown(state, list, steps::open(0, 0));
-    let state = shown(state, list, steps::open(31, 63));
-    let state = shown(state, list, steps::open(32, 0));
-    shown(state, list, steps::open(1, 64))
+    let state = shown(state, list, kinds::open(0, 0));
+    let state = shown(state, list, kinds::open(31, 63));
+    let state = shown(state, list, kinds::open(32, 0));
+    shown(state, list, kinds::open(1, 64))
 }
 
 fn roles(state: State) -> State {
     let list = lists::empty();
-    let state = shown(state, list, steps::assign(0, 0));
-    let state = shown(state, list, steps::assign(63, 31));
-    let state = shown(state, list, steps::activate(0, 0));
-    let state = shown(state, list, steps::activate(31, 31));
-    let state = shown(state, list, steps::activate(32, 0));
-    let state = shown(state, list, steps::activate(0, 32));
-    let state = shown(state, list, steps::deactivate(31, 31));
-    let state = shown(state, list, steps::deactivate(32, 0));
-    let state = shown(state, list, steps::deactivate(0, 32));
-    shown(state, list, steps::deactivate(0, 0))
+    let state = shown(state, list, kinds::assign(0, 0));
+    let state = shown(state, list, kinds::assign(63, 31));
+    let state = shown(state, list, kinds::activate(0, 0));
+    let state = shown(state, list, kinds::activate(31, 31));
+    let state = shown(state, list, kinds::activate(32, 0));
+    let state = shown(state, list, kinds::activate(0, 32));
+    let state = shown(state, list, kinds::deactivate(31, 31));
+    let state = shown(state, list, kinds::deactivate(32, 0));
+    let state = shown(state, list, kinds::deactivate(0, 32));
+    shown(state, list, kinds::deactivate(0, 0))
 }
 
 fn accesses(state: State) -> State {
     let list = lists::empty();
-    let state = shown(state, list, steps::grant(31, 31));
-    let state = shown(state, list, steps::grant(0, 0));
-    let state = shown(state, list, steps::activate(31, 31));
-    let state = shown(state, list, steps::activate(0, 0));
-    let state = shown(state, list, steps::access(0, 0, 0));
-    let state = shown(state, list, steps::access(31, 31, 31));
-    let state = shown(state, list, steps::access(32, 31, 31));
-    let state = shown(state, list, steps::access(31, 32, 31));
-    let state = shown(state, list, steps::access(31, 31, 32));
-    let state = shown(state, list, steps::finish(0));
-    let state = shown(state, list, steps::finish(31));
-    shown(state, list, steps::finish(32))
+    let state = shown(state, list, kinds::grant(31, 31));
+    let state = shown(state, list, kinds::grant(0, 0));
+    let state = shown(state, list, kinds::activate(31, 31));
+    let state = shown(state, list, kinds::activate(0, 0));
+    let state = shown(state, list, kinds::access(0, 0, 0));
+    let state = shown(state, list, kinds::access(31, 31, 31));
+    let state = shown(state, list, kinds::access(32, 31, 31));
+    let state = shown(state, list, kinds::access(31, 32, 31));
+    let state = shown(state, list, kinds::access(31, 31, 32));
+    let state = shown(state, list, kinds::finish(0));
+    let state = shown(state, list, kinds::finish(31));
+    shown(state, list, kinds::finish(32))
 }
 
 fn moves(state: State) -> State {
@@ -121,32 +121,32 @@ fn moves(state: State) -> State {
 
 fn closing(state: State) -> State {
     let list = lists::empty();
-    let state = shown(state, list, steps::lost(31));
-    let state = shown(state, list, steps::lost(0));
-    let state = shown(state, list, steps::lost(32));
-    let state = shown(state, list, steps::close(31));
-    let state = shown(state, list, steps::close(32));
-    shown(state, list, steps::close(0))
+    let state = shown(state, list, kinds::lost(31));
+    let state = shown(state, list, kinds::lost(0));
+    let state = shown(state, list, kinds::lost(32));
+    let state = shown(state, list, kinds::close(31));
+    let state = shown(state, list, kinds::close(32));
+    shown(state, list, kinds::close(0))
 }
 
 fn times(state: State) -> State {
     let list = lists::empty();
-    let state = shown(state, list, steps::clock(0));
-    let state = shown(state, list, steps::clock(1));
-    let state = shown(state, list, steps::clock(3_155_760_000));
-    let state = shown(state, list, steps::clock(18446744073709551615));
+    let state = shown(state, list, kinds::clock(0));
+    let state = shown(state, list, kinds::clock(1));
+    let state = shown(state, list, kinds::clock(3_155_760_000));
+    let state = shown(state, list, kinds::clock(18446744073709551615));
     show_time(state);
-    let state = shown(state, list, steps::clock(3_155_759_999));
+    let state = shown(state, list, kinds::clock(3_155_759_999));
     // An equal clock is granted.
-    let state = shown(state, list, steps::clock(3_155_759_999));
-    let state = shown(state, list, steps::clock(3_155_760_000));
+    let state = shown(state, list, kinds::clock(3_155_759_999));
+    let state = shown(state, list, kinds::clock(3_155_760_000));
     show_time(state);
     state
 }
 
 fn kinds(state: State) {
     let list = lists::empty();
-    let state = shown(state, list, steps::plain(13, 0, 0, 0));
-    let state = shown(state, list, steps::plain(18446744073709551615, 0, 0, 0));
+    let state = shown(state, list, kinds::plain(13, 0, 0, 0));
+    let state = shown(state, list, kinds::plain(18446744073709551615, 0, 0, 0));
     show_time(state);
 }

@@ -1,9 +1,9 @@
 // A step as the document writes it, and what the gate answers to it.
-use crate::steps;
-use enforcement::Answer;
+use crate::kinds;
 use enforcement::State;
-use enforcement::Step;
 use rules::RuleList;
+use steps::Answer;
+use steps::Step;
 
 // The step, the answer, and the next state for the case after it.
 pub(crate) fn shown(state: State, list: RuleList, step: Step) -> State {
@@ -24,7 +24,7 @@ pub(crate) fn shown_move(
     number(session);
     io::write_all(1, b" ");
     io::write_all(1, text);
-    answered(state, list, steps::move_to(session, x, y))
+    answered(state, list, kinds::move_to(session, x, y))
 }
 
 fn answered(state: State, list: RuleList, step: Step) -> State {

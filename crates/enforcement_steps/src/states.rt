@@ -1,11 +1,11 @@
 // Handed-in states and lists: those that 40 refuses, and those that break rules already.
+use crate::kinds;
 use crate::lists;
 use crate::showing::heading;
 use crate::showing::show_time;
 use crate::showing::shown;
 use crate::showing::shown_move;
 use crate::showing::shown_of;
-use crate::steps;
 use calendar::Term;
 use enforcement::Session;
 use enforcement::State;
@@ -32,12 +32,12 @@ pub(crate) fn all() {
 fn times() {
     let list = lists::empty();
     let state = handed(3_155_759_999, closed(), 0);
-    shown_of(b"time 3155759999", state, list, steps::finish(0));
+    shown_of(b"time 3155759999", state, list, kinds::finish(0));
     let state = handed(3_155_760_000, closed(), 0);
-    shown_of(b"time 3155760000", state, list, steps::finish(0));
+    shown_of(b"time 3155760000", state, list, kinds::finish(0));
     // 40 comes before 20.
-    shown_of(b"time 3155760000", state, list, steps::finish(32));
-    let after = shown(state, list, steps::clock(3_155_759_999));
+    shown_of(b"time 3155760000", state, list, kinds::finish(32));
+    let after = shown(state, list, kinds::clock(3_155_759_999));
     show_time(after);
 }
 
@@ -48,11 +48,11 @@ fn open_sessions() {
         b"open session of user 63 with all roles active",
         state,
         list,
-        steps::finish(0),
+        kinds::finish(0),
     );
     let state = handed(0, opened(64, Position::Unknown), 0);
-    shown_of(b"open session of user 64", state, list, steps::finish(0));
-    shown_of(b"open session of user 64", state, list, steps::close(31));
+    shown_of(b"open session of user 64", state, list, kinds::finish(0));
+    shown_of(b"open session of user 64", state, list, kinds::close(31));
 }
 
 fn points() {
@@ -67,7 +67,7 @@ fn points() {
 fn located(label: &[u8], x: i32, y: i32) {
     let position = Position::Known(Point { x, y });
     let state = handed(0, opened(0, position), 0);
-    shown_of(label, state, lists::empty(), steps::finish(0));
+    shown_of(label, state, lists::empty(), kinds::finish(0));
 }
 
 fn closed_sessions() {
@@ -77,28 +77,28 @@ fn closed_sessions() {
         b"closed session that keeps nothing",
         state,
         list,
-        steps::finish(0),
+        kinds::finish(0),
     );
     let state = handed(0, kept(1, Position::Unknown), 0);
     shown_of(
         b"closed session that keeps its user",
         state,
         list,
-        steps::finish(0),
+        kinds::finish(0),
     );
     let state = handed(0, kept(0, Position::Known(Point { x: 0, y: 0 })), 0);
     shown_of(
         b"closed session that keeps its position",
         state,
         list,
-        steps::finish(0),
+        kinds::finish(0),
     );
     let state = handed(0, closed(), 1);
     shown_of(
         b"closed session that keeps an active role",
         state,
         list,
-        steps::finish(0),
+        kinds::finish(0),
     );
 }
 
@@ -111,7 +111,7 @@ fn lengths() {
 fn of_length(label: &[u8], length: usize) {
     let idle = lists::idle();
     let list = lists::listed(length, idle, idle, idle, idle, idle, idle);
-    shown_of(label, State::fresh(), list, steps::assign(0, 0));
+    shown_of(label, State::fresh(), list, kinds::assign(0, 0));
 }
 
 // Out of range (11), the same role twice (13), no such date (14), and one past the length.
@@ -141,48 +141,48 @@ fn rules_refused() {
         b"max-roles 33 past the length",
         State::fresh(),
         list,
-        steps::finish(0),
+        kinds::finish(0),
     );
 }
 
 fn under(label: &[u8], rule: Rule) {
-    shown_of(label, State::fresh(), lists::single(rule), steps::finish(0));
+    shown_of(label, State::fresh(), lists::single(rule), kinds::finish(0));
 }
 
 // One that selects no broken rule is granted.
 fn requests_on_broken(state: State) -> State {
     let list = lists::broken();
-    let state = shown(state, list, steps::assign(1, 4));
-    let state = shown(state, list, steps::assign(1, 1));
-    let state = shown(state, list, steps::assign(1, 2));
-    let state = shown(state, list, steps::withdraw(0, 1));
-    let state = shown(state, list, steps::assign(0, 1));
-    let state = shown(state, list, steps::grant(0, 0));
-    let state = shown(state, list, steps::take(0, 0));
-    let state = shown(state, list, steps::open(2, 2));
-    let state = shown(state, list, steps::activate(1, 5));
-    let state = shown(state, list, steps::activate(1, 3));
-    shown(state, list, steps::activate(1, 4))
+    let state = shown(state, list, kinds::assign(1, 4));
+    let state = shown(state, list, kinds::assign(1, 1));
+    let state = shown(state, list, kinds::assign(1, 2));
+    let state = shown(state, list, kinds::withdraw(0, 1));
+    let state = shown(state, list, kinds::assign(0, 1));
+    let state = shown(state, list, kinds::grant(0, 0));
+    let state = shown(state, list, kinds::take(0, 0));
+    let state = shown(state, list, kinds::open(2, 2));
+    let state = shown(state, list, kinds::activate(1, 5));
+    let state = shown(state, list, kinds::activate(1, 3));
+    shown(state, list, kinds::activate(1, 4))
 }
 
 // Roles end until the selected rules hold; those that others rule out stay.
 fn events_on_broken() {
     let list = lists::broken();
     let state = shown_move(breaking(), list, 1, b"0 0", 0, 0);
-    shown(state, list, steps::deactivate(0, 5));
-    shown(breaking(), list, steps::lost(1));
-    shown(breaking(), list, steps::close(1));
-    shown(breaking(), list, steps::clock(0));
+    shown(state, list, kinds::deactivate(0, 5));
+    shown(breaking(), list, kinds::lost(1));
+    shown(breaking(), list, kinds::close(1));
+    shown(breaking(), list, kinds::clock(0));
     // The first of February.
-    shown(breaking(), list, steps::clock(2_678_400));
+    shown(breaking(), list, kinds::clock(2_678_400));
 }
 
 // User 0 has role 3 active and is not assigned it.
 fn order_on_broken(state: State) -> State {
     let list = lists::broken();
     // 24 comes before 26, and 25 before 27.
-    let state = shown(state, list, steps::activate(0, 3));
-    shown(state, list, steps::withdraw(0, 3))
+    let state = shown(state, list, kinds::activate(0, 3));
+    shown(state, list, kinds::withdraw(0, 3))
 }
 
 // ---- states

@@ -58,14 +58,14 @@ use lib.ListN.{drop as dropped}
 use Rattle.rules.specs.Acceptance.{listAccepted}
 use Rattle.rules.specs.declared.lists.RuleList.{RuleList}
 use Rattle.enforcement.specs.States.{fresh}
-use Rattle.enforcement.specs.Runs.{ranOf, writtenOf, plainEntries, plainState}
-use Rattle.enforcement.specs.declared.steps.Step.{Step}
+use Rattle.enforcement.specs.Runs.{ranOf, entriesWritten, plainEntries, plainState}
+use Rattle.steps.specs.declared.steps.Step.{Step}
 use Rattle.enforcement.specs.declared.states.State.{State}
 use Rattle.enforcement.specs.declared.runs.Ran.{Ran}
 use Rattle.rules.proofs.lists.RuleList as L
 use Rattle.rules.proofs.lists.RuleList.Laws as L′
-use Rattle.enforcement.proofs.steps.Step as P
-use Rattle.enforcement.proofs.steps.Step.Laws as P′
+use Rattle.steps.proofs.steps.Step as P
+use Rattle.steps.proofs.steps.Step.Laws as P′
 use Rattle.enforcement.proofs.states.State as S
 use Rattle.enforcement.proofs.states.State.Laws as S′
 use Rattle.enforcement.proofs.runs.Ran as R
@@ -112,7 +112,7 @@ stayed = (stay-none (λ _. Few) yes, (stay-none (λ _. usize) yes, (stay-none (�
 
 -- the two promises of `run`
 abbrev Given-by : RuleList → State → List Step → List ℕ → Ran → List ℕ → Type 0
-Given-by list st ss ys r zs = (r ≡ ranOf list st ss (length ys)) × (zs ≡ writtenOf list st ss ys)
+Given-by list st ss ys r zs = (r ≡ ranOf list st ss (length ys)) × (zs ≡ entriesWritten list st ss ys)
 
 abbrev Plain-by : RuleList → State → List Step → List ℕ → Ran → List ℕ → Type 0
 Plain-by list st ss ys r zs =

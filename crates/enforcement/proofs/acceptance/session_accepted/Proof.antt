@@ -5,6 +5,9 @@ use Rattle.enforcement.specs.States.{sessionAccepted}
 use Rattle.enforcement.proofs.acceptance.session_accepted.Statement.{statement}
 use Rattle.enforcement.proofs.acceptance.session_accepted.Tie as tie
 
+cast-result : tie.Need-cast-result
+cast-result c = search needs
+
 in-range-requires : tie.Need-in-range-requires
 in-range-requires c κs = search needs
 
@@ -24,4 +27,4 @@ returns-2 c = rw (c .before .before .before .if1 .left, c .before .is-unknown .e
 
 pub session-accepted-spec : {M : Type 1} → statement M
 session-accepted-spec =
-    tie.close (tie.spec in-range-requires returns is-unknown-requires is-empty-requires returns-2)
+    tie.close (tie.spec cast-result in-range-requires returns is-unknown-requires is-empty-requires returns-2)

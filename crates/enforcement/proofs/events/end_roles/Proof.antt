@@ -18,8 +18,8 @@ plan-of-requires c κs = search needs
 copied-requires : tie.Need-copied-requires
 copied-requires c κs = search needs
 
-settled-requires : tie.Need-settled-requires
-settled-requires c κs = search needs
+plan-settled-requires : tie.Need-plan-settled-requires
+plan-settled-requires c κs = search needs
 
 returns : tie.Need-returns
 unfolding leftOf
@@ -30,7 +30,7 @@ returns c =
     let small : (j : ℕ) → wordAt (start .args .active .now) j < 2 ^ 32 =
     λ j. let fits : Fits w32 (wordAt (copied .result) j) = search needs in (rw (copied .ensures) at fits) .fits in
     let left = plan-settles _ _ _ _ (start .pre .1) small (planned .ensures) in
-    ap₂ (λ (active : List ℕ) (number : ℕ). record { active = active; selected = number }) (rw (c .settled .ensures, copied .ensures) left) (planned .ensures .number)
+    ap₂ (λ (active : List ℕ) (number : ℕ). record { active = active; selected = number }) (rw (c .plan-settled .ensures, copied .ensures) left) (planned .ensures .number)
 
 pub end-roles-spec : {M : Type 1} → statement M
-end-roles-spec = tie.close (tie.spec plan-of-requires copied-requires settled-requires returns)
+end-roles-spec = tie.close (tie.spec plan-of-requires copied-requires plan-settled-requires returns)

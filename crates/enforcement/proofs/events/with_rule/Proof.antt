@@ -2,7 +2,7 @@
 -- Assumes nothing.
 use mathlib.Core.Path.{refl, sym, _∙_}
 use native.Mathlib.Omega.{arith}
-use Rattle.enforcement.specs.Gate.{keeps}
+use Rattle.enforcement.specs.Rounds.{keeps}
 use Rattle.enforcement.proofs.Planning.{adds-nothing, adds-dead, adds-needs, adds-out, keeps-past-first, keeps-past-second, keeps-in-term, keeps-past-term}
 use borrow.Author.Needs.{needs}
 use Rattle.enforcement.proofs.events.with_rule.Statement.{statement}

@@ -61,43 +61,44 @@ use denote.Exit.{yes}
 use Rattle.rules.specs.Acceptance.{rulesOf, listAccepted}
 use Rattle.rules.specs.declared.lists.RuleList.{RuleList}
 use Rattle.enforcement.specs.States.{fresh}
-use Rattle.enforcement.specs.Steps.{actionOf}
+use Rattle.steps.specs.Steps.{actionOf}
 use Rattle.enforcement.specs.Gate.{decide, stepOf}
-use Rattle.enforcement.specs.Deciding.{configurationOf, stateOf, nextOf}
+use Rattle.enforcement.specs.Deciding.{configurationOf, stateWith, nextOf}
 use Rattle.enforcement.specs.Reached.{Typed, Accepted}
-use Rattle.enforcement.specs.Words.{wordOf}
-use Rattle.enforcement.specs.Runs.{planOf, ranOf, writtenOf, plainEntries, plainState}
+use Rattle.steps.specs.Answers.{wordOf}
+use Rattle.enforcement.specs.Runs.{admissionOf, ranOf, entriesWritten, RunGiven, RunPlain}
 use Rattle.enforcement.specs.declared.states.State.{State}
-use Rattle.enforcement.specs.declared.steps.Step.{Step}
-use Rattle.enforcement.specs.declared.steps.Answer.{Answer}
-use Rattle.enforcement.specs.declared.steps.Answer.the-variants.{Granted}
-use Rattle.enforcement.specs.declared.steps.Next.{Next}
+use Rattle.steps.specs.declared.steps.Step.{Step}
+use Rattle.steps.specs.declared.answers.Answer.{Answer}
+use Rattle.steps.specs.declared.answers.Answer.the-variants.{Granted}
+use Rattle.enforcement.specs.declared.states.Next.{Next}
 use Rattle.enforcement.specs.declared.configurations.Configuration.{Configuration}
 use Rattle.enforcement.specs.declared.configurations.NextConfiguration.{NextConfiguration}
-use Rattle.enforcement.specs.declared.runs.Going.{Going}
+use Rattle.enforcement.specs.declared.runs.Admission.{Admission}
 use Rattle.enforcement.specs.declared.runs.Ran.{Ran}
 use Rattle.enforcement.proofs.Answering.{accepted-length}
+use Rattle.enforcement.proofs.Typing.{words-small}
 use Rattle.enforcement.proofs.Running.{noStep, stateAt, entriesAt, Going-on, runs-on, next-is, next-state, next-entries, state-none, entries-none, result-end, entries-end, ran-plain, written-plain}
 use Rattle.rules.proofs.lists.RuleList as ListT
 use Rattle.rules.proofs.lists.RuleList.Laws as ListL
 use Rattle.enforcement.proofs.states.State as StateT
 use Rattle.enforcement.proofs.states.State.Laws as StateL
-use Rattle.enforcement.proofs.steps.Step as StepT
-use Rattle.enforcement.proofs.steps.Step.Laws as StepL
+use Rattle.steps.proofs.steps.Step as StepT
+use Rattle.steps.proofs.steps.Step.Laws as StepL
 use Rattle.enforcement.proofs.configurations.Configuration as ConfigurationT
 use Rattle.enforcement.proofs.configurations.Configuration.Laws as ConfigurationL
 use Rattle.enforcement.proofs.configurations.NextConfiguration as NextT
 use Rattle.enforcement.proofs.configurations.NextConfiguration.Laws as NextL
-use Rattle.enforcement.proofs.steps.Answer as AnswerT
-use Rattle.enforcement.proofs.steps.Answer.Laws as AnswerL
-use Rattle.enforcement.proofs.runs.Going as GoingT
-use Rattle.enforcement.proofs.runs.Going.Laws as GoingL
+use Rattle.steps.proofs.answers.Answer as AnswerT
+use Rattle.steps.proofs.answers.Answer.Laws as AnswerL
+use Rattle.enforcement.proofs.runs.Admission as AdmissionT
+use Rattle.enforcement.proofs.runs.Admission.Laws as AdmissionL
 use Rattle.enforcement.proofs.runs.Ran as RanT
 use Rattle.enforcement.proofs.runs.Ran.Laws as RanL
-use Rattle.enforcement.proofs.runs.plan as plan
-use Rattle.enforcement.proofs.runs.plan.Symbol as plan-def
-use Rattle.enforcement.proofs.runs.plan.Symbol.{name as #plan}
-use Rattle.enforcement.proofs.runs.plan.Met as plan-thm
+use Rattle.enforcement.proofs.runs.admit as admit
+use Rattle.enforcement.proofs.runs.admit.Symbol as admit-def
+use Rattle.enforcement.proofs.runs.admit.Symbol.{name as #admit}
+use Rattle.enforcement.proofs.runs.admit.Met as admit-thm
 use Rattle.enforcement.proofs.states.State.configuration as apart
 use Rattle.enforcement.proofs.states.State.configuration.Symbol as apart-def
 use Rattle.enforcement.proofs.states.State.configuration.Symbol.{name as #apart}
@@ -110,10 +111,10 @@ use Rattle.enforcement.proofs.configurations.Configuration.with_history
 use Rattle.enforcement.proofs.configurations.Configuration.with_history.Symbol as together-def
 use Rattle.enforcement.proofs.configurations.Configuration.with_history.Symbol.{name as #together}
 use Rattle.enforcement.proofs.configurations.Configuration.with_history.Met as together-thm
-use Rattle.enforcement.proofs.steps.Answer.word as word′
-use Rattle.enforcement.proofs.steps.Answer.word.Symbol as word-def
-use Rattle.enforcement.proofs.steps.Answer.word.Symbol.{name as #word}
-use Rattle.enforcement.proofs.steps.Answer.word.Met as word-thm
+use Rattle.enforcement.proofs.runs.word as word′
+use Rattle.enforcement.proofs.runs.word.Symbol as word-def
+use Rattle.enforcement.proofs.runs.word.Symbol.{name as #word}
+use Rattle.enforcement.proofs.runs.word.Met as word-thm
 use Rattle.enforcement.proofs.runs.run.Key.{name as #run}
 use Rattle.enforcement.proofs.runs.run as run′
 use Rattle.enforcement.proofs.runs.run.Statement as stated
@@ -168,8 +169,8 @@ configuration-val = SL.val ConfigurationT.the-type ConfigurationL.the-laws
 abbrev next-val : NextConfiguration → Val
 next-val = SL.val NextT.the-type NextL.the-laws
 
-abbrev going-val : Going → Val
-going-val = SL.val GoingT.the-type GoingL.the-laws
+abbrev admission-val : Admission → Val
+admission-val = SL.val AdmissionT.the-type AdmissionL.the-laws
 
 abbrev ran-val : Ran → Val
 ran-val = SL.val RanT.the-type RanL.the-laws
@@ -192,8 +193,8 @@ IsConfiguration c = Is ConfigurationT.the-row c (configuration-val c ∷ [])
 abbrev IsNext : NextConfiguration → Type 0
 IsNext r = Is NextT.the-row r (next-val r ∷ [])
 
-abbrev IsGoing : Going → Type 0
-IsGoing g = Is GoingT.the-row g (going-val g ∷ [])
+abbrev IsAdmission : Admission → Type 0
+IsAdmission g = Is AdmissionT.the-row g (admission-val g ∷ [])
 
 -- ---- of what a step hands back: its parts are such
 configuration-of : (r : NextConfiguration) → IsNext r → IsConfiguration (r .configuration)
@@ -231,10 +232,10 @@ is-configuration st p =
     let fields = SL.owed StateT.the-type StateL.the-laws st _ p in
     SL.owes ConfigurationT.the-type ConfigurationL.the-laws (configurationOf st) (fields .0, (fields .1 .0, (fields .1 .1 .0, (fields .1 .1 .1 .0, (fields .1 .1 .1 .1 .0, tt)))))
 
-is-state : (c : Configuration) (hs : List ℕ) → IsConfiguration c → IsHistory hs → IsState (stateOf c hs)
+is-state : (c : Configuration) (hs : List ℕ) → IsConfiguration c → IsHistory hs → IsState (stateWith c hs)
 is-state c hs p q =
     let fields = SL.owed ConfigurationT.the-type ConfigurationL.the-laws c _ p in
-    SL.owes StateT.the-type StateL.the-laws (stateOf c hs) (fields .0, (fields .1 .0, (fields .1 .1 .0, (fields .1 .1 .1 .0, (fields .1 .1 .1 .1 .0, (subst IsHistory (sym (held-same hs)) q, tt))))))
+    SL.owes StateT.the-type StateL.the-laws (stateWith c hs) (fields .0, (fields .1 .0, (fields .1 .1 .0, (fields .1 .1 .1 .0, (fields .1 .1 .1 .1 .0, (subst IsHistory (sym (held-same hs)) q, tt))))))
 
 -- ---- what stands before the first step: its answer is never read
 abbrev unread : Answer
@@ -250,12 +251,6 @@ is-before : (st : State) → IsState st → IsNext (before-all st)
 is-before st p = SL.owes NextT.the-type NextL.the-laws (before-all st) (is-configuration st p, (is-unread, tt))
 
 -- ---- what the type says of a state
-words-small : (w : Width) (xs : List ℕ) (us : List Val) → shadow (each ℕ (UInt w .own) (map (λ (x : ℕ). x) xs) us) → (j : ℕ) → getD xs j 0 < 2 ^ bits w
-words-small w [] us p j = pow-pos (bits w)
-words-small w (x ∷ xs) [] p j = absurd p
-words-small w (x ∷ xs) (u ∷ us) p zero = p .0 .1
-words-small w (x ∷ xs) (u ∷ us) p (suc j) = words-small w xs us (p .1) j
-
 typed-state : (st : State) → IsState st → Typed st
 typed-state st is =
     let fields = SL.owed StateT.the-type StateL.the-laws st _ is in
@@ -274,11 +269,11 @@ typed-state st is =
 -- ---- where the loop is: i steps are run
 record Point (list : RuleList) (st₀ : State) (ss : List Step) (ys₀ : List ℕ) : Type 0 where
   i : ℕ
-  le : i ≤ planOf list st₀ (length ss) (length ys₀) .count
+  le : i ≤ admissionOf list st₀ (length ss) (length ys₀) .count
   last : NextConfiguration
   hs : List ℕ
   ys : List ℕ
-  st-is : stateOf (last .configuration) hs ≡ stateAt list st₀ ss i
+  st-is : stateWith (last .configuration) hs ≡ stateAt list st₀ ss i
   ys-is : ys ≡ entriesAt list st₀ ss ys₀ i
   len : length ys ≡ length ys₀
   is : IsNext last
@@ -296,21 +291,15 @@ both-said 𝓤 {X} {φ} {ψ} x y =
     (comm∗ 𝓤 (sep 𝓤 (fact 𝓤 φ) (fact 𝓤 ψ)) X))
 
 -- ---- the two promises
-abbrev Given-by : RuleList → State → List Step → List ℕ → Ran → List ℕ → Type 0
-Given-by list st ss ys r zs = (r ≡ ranOf list st ss (length ys)) × (zs ≡ writtenOf list st ss ys)
-
-abbrev Plain-by : RuleList → State → List Step → List ℕ → Ran → List ℕ → Type 0
-Plain-by list st ss ys r zs = st ≡ fresh → listAccepted list ≡ true → length ss ≤ length ys → (r .number ≡ 0) × (r .state ≡ plainState list ss) × (zs ≡ plainEntries list ss ++ dropped (length ss) ys)
-
-plain-by : (list : RuleList) (st : State) (ss : List Step) (ys : List ℕ) (r : Ran) (zs : List ℕ) → Given-by list st ss ys r zs → Plain-by list st ss ys r zs
+plain-by : (list : RuleList) (st : State) (ss : List Step) (ys : List ℕ) (r : Ran) (zs : List ℕ) → RunGiven list st ss ys r zs → RunPlain list st ss ys r zs
 plain-by list st ss ys r zs given fresh-is listed room =
     let same : r ≡ ranOf list fresh ss (length ys) = given .0 ∙ ap (λ (s : State). ranOf list s ss (length ys)) fresh-is in
-    (ap (λ (x : Ran). x .number) same ∙ ran-plain list listed ss ys room .0, ap (λ (x : Ran). x .state) same ∙ ran-plain list listed ss ys room .1, given .1 ∙ ap (λ (s : State). writtenOf list s ss ys) fresh-is ∙ written-plain list listed ss ys room)
+    (ap (λ (x : Ran). x .number) same ∙ ran-plain list listed ss ys room .0, ap (λ (x : Ran). x .state) same ∙ ran-plain list listed ss ys room .1, given .1 ∙ ap (λ (s : State). entriesWritten list s ss ys) fresh-is ∙ written-plain list listed ss ys room)
 
 module _ {M : Type 1} (𝓤 : URA M) (H : Heap 𝓤) (A : Atoms 𝓤) (mem : Memory → SProp 𝓤) (run : Routine → Fun 𝓤) where
   -- the contracts that the proof cites
-  abbrev Plan : Contract 𝓤
-  Plan = tripleOf 𝓤 H A plan.signature (plan.spec 𝓤 H A mem run)
+  abbrev Admit : Contract 𝓤
+  Admit = tripleOf 𝓤 H A admit.signature (admit.spec 𝓤 H A mem run)
 
   abbrev Apart : Contract 𝓤
   Apart = tripleOf 𝓤 H A apart.signature (apart.spec 𝓤 H A mem run)
@@ -325,8 +314,8 @@ module _ {M : Type 1} (𝓤 : URA M) (H : Heap 𝓤) (A : Atoms 𝓤) (mem : Mem
   Word = tripleOf 𝓤 H A word′.signature (word′.spec 𝓤 H A mem run)
 
   -- what each callee is passed
-  abbrev to-plan : (list : RuleList) (st : State) (n m : ℕ) → Plan .Ghost
-  to-plan list st n m = ((tt, tt, tt, (list, (st, (n, (m, tt)))), (list-val list ∷ [], (state-val st ∷ [], (vint w64 n ∷ [], (vint w64 m ∷ [], tt))))), tt)
+  abbrev to-admit : (list : RuleList) (st : State) (n m : ℕ) → Admit .Ghost
+  to-admit list st n m = ((tt, tt, tt, (list, (st, (n, (m, tt)))), (list-val list ∷ [], (state-val st ∷ [], (vint w64 n ∷ [], (vint w64 m ∷ [], tt))))), tt)
 
   abbrev to-apart : (st : State) → Apart .Ghost
   to-apart st = ((tt, tt, tt, (st, tt), (state-val st ∷ [], tt)), tt)
@@ -345,22 +334,22 @@ module _ {M : Type 1} (𝓤 : URA M) (H : Heap 𝓤) (A : Atoms 𝓤) (mem : Mem
   to-word a = ((tt, tt, tt, (a, tt), (answer-val a ∷ [], tt)), tt)
 
   -- of each callee's `ensured`, the clause alone
-  plan-said : (list : RuleList) (st : State) (n m : ℕ) (r : Going) → ent 𝓤 (ensured 𝓤 H A plan.ended (plan.clauses 𝓤 H A mem run) tt (list, (st, (n, (m, tt)))) tt r) (fact 𝓤 (r ≡ planOf list st n m))
-  plan-said list st n m r = exE 𝓤 _ (λ ws. snd∗ 𝓤 (sem 𝓤 H A (lasts plan.ended tt (list, (st, (n, (m, tt)))) ws)) (fact 𝓤 (r ≡ planOf list st n m)))
+  admit-said : (list : RuleList) (st : State) (n m : ℕ) (r : Admission) → ent 𝓤 (ensured 𝓤 H A admit.ended (admit.clauses 𝓤 H A mem run) tt (list, (st, (n, (m, tt)))) tt r) (fact 𝓤 (r ≡ admissionOf list st n m))
+  admit-said list st n m r = exE 𝓤 _ (λ ws. snd∗ 𝓤 (sem 𝓤 H A (lasts admit.ended tt (list, (st, (n, (m, tt)))) ws)) (fact 𝓤 (r ≡ admissionOf list st n m)))
 
   apart-said : (st : State) (r : Configuration) → ent 𝓤 (ensured 𝓤 H A apart.ended (apart.clauses 𝓤 H A mem run) tt (st, tt) tt r) (fact 𝓤 (r ≡ configurationOf st))
   apart-said st r = exE 𝓤 _ (λ ws. snd∗ 𝓤 (sem 𝓤 H A (lasts apart.ended tt (st, tt) ws)) (fact 𝓤 (r ≡ configurationOf st)))
 
-  together-said : (c : Configuration) (hs : List ℕ) (r : State) → ent 𝓤 (ensured 𝓤 H A together.ended (together.clauses 𝓤 H A mem run) tt (c, (hs, tt)) tt r) (fact 𝓤 (r ≡ stateOf c hs))
-  together-said c hs r = exE 𝓤 _ (λ ws. snd∗ 𝓤 (sem 𝓤 H A (lasts together.ended tt (c, (hs, tt)) ws)) (fact 𝓤 (r ≡ stateOf c hs)))
+  together-said : (c : Configuration) (hs : List ℕ) (r : State) → ent 𝓤 (ensured 𝓤 H A together.ended (together.clauses 𝓤 H A mem run) tt (c, (hs, tt)) tt r) (fact 𝓤 (r ≡ stateWith c hs))
+  together-said c hs r = exE 𝓤 _ (λ ws. snd∗ 𝓤 (sem 𝓤 H A (lasts together.ended tt (c, (hs, tt)) ws)) (fact 𝓤 (r ≡ stateWith c hs)))
 
   word-said : (a : Answer) (w : ℕ) → ent 𝓤 (ensured 𝓤 H A word′.ended (word′.clauses 𝓤 H A mem run) tt (a, tt) tt w) (fact 𝓤 (w ≡ wordOf a))
   word-said a w = exE 𝓤 _ (λ ws. snd∗ 𝓤 (sem 𝓤 H A (lasts word′.ended tt (a, tt) ws)) (fact 𝓤 (w ≡ wordOf a)))
 
   module _ (W : Given 𝓤 H A) where
     -- what each callee asks is had for nothing but the lent history: its parameters are plain data
-    asks-plan : (list : RuleList) (st : State) (n m : ℕ) → IsList list → IsState st → n < 2 ^ 64 → m < 2 ^ 64 → ent 𝓤 (emp 𝓤) (Plan .pre (to-plan list st n m))
-    asks-plan list st n m pl ps gn gm =
+    asks-admit : (list : RuleList) (st : State) (n m : ℕ) → IsList list → IsState st → n < 2 ^ 64 → m < 2 ^ 64 → ent 𝓤 (emp 𝓤) (Admit .pre (to-admit list st n m))
+    asks-admit list st n m pl ps gn gm =
         qed W [] ∵ nothing ! $ owned ! usize (Is usize) (uint-makes 𝓤 H A W w64) m (vint w64 m ∷ []) (refl, gm) $ fjoin ! $ owned ! usize (Is usize) (uint-makes 𝓤 H A W w64) n (vint w64 n ∷ []) (refl, gn) $ fjoin ! $
         owned ! StateT.the-row (Is StateT.the-row) (SL.makes StateT.the-type StateL.the-plain 𝓤 H A) st (state-val st ∷ []) ps $ fjoin ! $ owned ! ListT.the-row (Is ListT.the-row) (SL.makes ListT.the-type ListL.the-plain 𝓤 H A) list (list-val list ∷ []) pl $ fjoin ! $
         nothing ! $ join ! $ nothing ! $ move ! (1 ∷ 0 ∷ []) $ join ! $ done !
@@ -413,11 +402,11 @@ module _ {M : Type 1} (𝓤 : URA M) (H : Heap 𝓤) (A : Atoms 𝓤) (W : Given
   abbrev m : ℕ
   m = length ys₀
 
-  abbrev going : Going
-  going = planOf list st₀ n m
+  abbrev admitted : Admission
+  admitted = admissionOf list st₀ n m
 
   abbrev count : ℕ
-  count = going .count
+  count = admitted .count
 
   abbrev At-point : Type 0
   At-point = Point list st₀ ss ys₀
@@ -453,12 +442,12 @@ module _ {M : Type 1} (𝓤 : URA M) (H : Heap 𝓤) (A : Atoms 𝓤) (W : Given
   named-steps = fres γ (codedHoleys StepT.the-row .code (heres StepT.the-row ss))
 
   -- from what is had at exit to the `post` of `walkOf`
-  exits : (ys : List ℕ) (r : Ran) (u : Val) → length ys ≡ m → Given-by list st₀ ss ys₀ r ys → Plain-by list st₀ ss ys₀ r ys
+  exits : (ys : List ℕ) (r : Ran) (u : Val) → length ys ≡ m → RunGiven list st₀ ss ys₀ r ys → RunPlain list st₀ ss ys₀ r ys
       → ent 𝓤 (⋆ 𝓤 H A (‵ (RanT.the-row .own r (u ∷ [])) ∷ ‵ (seen ys) ∷ ‵ (lent ys) ∷ ‵ (flft κ′ q′) ∷ ‵ (flft κ q) ∷ ‵ shared ∷ ‵ named-steps ∷ [])) (Post u)
   exits ys r u len e e′ =
       qed W (‵ (RanT.the-row .own r (u ∷ [])) ∷ ‵ (seen ys) ∷ ‵ (lent ys) ∷ ‵ (flft κ′ q′) ∷ ‵ (flft κ q) ∷ ‵ shared ∷ ‵ named-steps ∷ []) ∵
       suffices ! _ (ends-at 𝓤 H A run′.ended stayed (run′.clauses 𝓤 H A mem run) W bound u r (tt, (tt, (tt, (ys, tt)))) (tt, (tt, (tt, (len, tt))))) $
-      suffices ! _ (both-said 𝓤 {φ = Given-by list st₀ ss ys₀ r ys} {ψ = Plain-by list st₀ ss ys₀ r ys} e e′) $
+      suffices ! _ (both-said 𝓤 {φ = RunGiven list st₀ ss ys₀ r ys} {ψ = RunPlain list st₀ ss ys₀ r ys} e e′) $
       nothing ! $ move ! (4 ∷ 0 ∷ []) $ join ! $ move ! (4 ∷ 0 ∷ []) $ join ! $ frame ! $
       -- [the result; seen; lent; shared; named]
       nothing ! $ move ! (2 ∷ 3 ∷ []) $ fjoin ! $ pureI ! (at-slice u64 (answers ys) (at .1 .1 .1 .0)) (tt, (tt, tt)) (ap (λ (k : ℕ). sliceVal (b′, o′) k ∷ []) (sym len), subst (Room u64) (sym len) gm) $ fjoin ! $ fjoin ! $
@@ -469,7 +458,7 @@ module _ {M : Type 1} (𝓤 : URA M) (H : Heap 𝓤) (A : Atoms 𝓤) (W : Given
 
   -- the state at a point
   abbrev here : At-point → State
-  here x = stateOf (x .last .configuration) (x .hs)
+  here x = stateWith (x .last .configuration) (x .hs)
 
   -- ---- facts at a point from which a step is run
   module _ (x : At-point) (less : T (ltb (x .i) count)) where
@@ -537,16 +526,16 @@ module _ {M : Type 1} (𝓤 : URA M) (H : Heap 𝓤) (A : Atoms 𝓤) (W : Given
   -- at the loop's end
   module _ (x : At-point) (over : T (not (ltb (x .i) count))) where
     abbrev result : Ran
-    result = record { number = going .number; state = here x }
+    result = record { number = admitted .number; state = here x }
 
     at-end : x .i ≡ count
     at-end = le-antisymm (x .le) (nltb→le (x .i) count over)
 
-    given-is : Given-by list st₀ ss ys₀ result (x .ys)
+    given-is : RunGiven list st₀ ss ys₀ result (x .ys)
     given-is = (result-end list st₀ ss ys₀ (x .i) (here x) at-end (x .st-is), entries-end list st₀ ss ys₀ (x .i) (x .ys) at-end (x .ys-is))
 
-    is-ran : IsGoing going → Is RanT.the-row result (ran-val result ∷ [])
-    is-ran p = SL.owes RanT.the-type RanL.the-laws result (SL.owed GoingT.the-type GoingL.the-laws going _ p .0, (is-state (x .last .configuration) (x .hs) (configuration-of (x .last) (x .is)) (x .is-hs), tt))
+    is-ran : IsAdmission admitted → Is RanT.the-row result (ran-val result ∷ [])
+    is-ran p = SL.owes RanT.the-type RanL.the-laws result (SL.owed AdmissionT.the-type AdmissionL.the-laws admitted _ p .0, (is-state (x .last .configuration) (x .hs) (configuration-of (x .last) (x .is)) (x .is-hs), tt))
 
   -- the MIR types of the plain types' values
   state-typed : (st : State) → IsState st → T (hasTy StateL.mir (state-val st)) × WT (state-val st)
@@ -561,7 +550,7 @@ module _ {M : Type 1} (𝓤 : URA M) (H : Heap 𝓤) (A : Atoms 𝓤) (W : Given
   answer-typed : (a : Answer) → IsAnswer a → T (hasTy AnswerL.mir (answer-val a)) × WT (answer-val a)
   answer-typed a p = EL.lawful AnswerT.the-type AnswerL.the-laws 𝓤 H A W tt .typed a _ p .0
 
-  module _ (𝓣 : Tables 𝓤 H) (known-plan : Triple 𝓤 (𝓣 .C #plan) (Plan 𝓤 H A mem run)) (known-apart : Triple 𝓤 (𝓣 .C #apart) (Apart 𝓤 H A mem run)) (known-decided : Triple 𝓤 (𝓣 .C #decided) (Decided 𝓤 H A mem run)) (known-word : Triple 𝓤 (𝓣 .C #word) (Word 𝓤 H A mem run)) (known-together : Triple 𝓤 (𝓣 .C #together) (Together 𝓤 H A mem run)) where
+  module _ (𝓣 : Tables 𝓤 H) (known-admit : Triple 𝓤 (𝓣 .C #admit) (Admit 𝓤 H A mem run)) (known-apart : Triple 𝓤 (𝓣 .C #apart) (Apart 𝓤 H A mem run)) (known-decided : Triple 𝓤 (𝓣 .C #decided) (Decided 𝓤 H A mem run)) (known-word : Triple 𝓤 (𝓣 .C #word) (Word 𝓤 H A mem run)) (known-together : Triple 𝓤 (𝓣 .C #together) (Together 𝓤 H A mem run)) where
     abbrev C : Calls 𝓤 H
     C = 𝓣 .C
 
@@ -571,9 +560,9 @@ module _ {M : Type 1} (𝓤 : URA M) (H : Heap 𝓤) (A : Atoms 𝓤) (W : Given
     fm : FmC 𝓤 H (W .laws) (𝓣 .C)
     fm = fmOf 𝓤 H (W .laws) 𝓣
 
-    module _ (gp : IsGoing going) (l₀ l₁ l₂ l₃ l₄ l₅ l₆ l₇ l₈ l₉ l₁₀ l₁₁ l₁₂ l₁₃ l₁₄ l₁₅ l₁₆ l₁₇ l₁₈ l₁₉ l₂₀ l₂₁ l₂₂ : ℕ) where
+    module _ (gp : IsAdmission admitted) (l₀ l₁ l₂ l₃ l₄ l₅ l₆ l₇ l₈ l₉ l₁₀ l₁₁ l₁₂ l₁₃ l₁₄ l₁₅ l₁₆ l₁₇ l₁₈ l₁₉ l₂₀ l₂₁ l₂₂ : ℕ) where
       abbrev En : Env 𝓤 H
-      En = (RanL.mir, l₀) ∷ (ListL.mir, l₁) ∷ (StateL.mir, l₂) ∷ (stepsTy, l₃) ∷ (answersTy, l₄) ∷ (GoingL.mir, l₅) ∷ (word, l₆) ∷ (historyTy, l₇) ∷ (NextL.mir, l₈) ∷ (word, l₉) ∷ (word, l₁₀) ∷ (word, l₁₁) ∷ (ConfigurationL.mir, l₁₂) ∷ (AnswerL.mir, l₁₃) ∷ (tyBool, l₁₄) ∷ (word, l₁₅) ∷ (tyPtr, l₁₆) ∷ (StepL.mir, l₁₇) ∷ (tyRef erased mut historyTy, l₁₈) ∷ (word, l₁₉) ∷ (tyPtr, l₂₀) ∷ (StateL.mir, l₂₁) ∷ (historyTy, l₂₂) ∷ []
+      En = (RanL.mir, l₀) ∷ (ListL.mir, l₁) ∷ (StateL.mir, l₂) ∷ (stepsTy, l₃) ∷ (answersTy, l₄) ∷ (AdmissionL.mir, l₅) ∷ (word, l₆) ∷ (historyTy, l₇) ∷ (NextL.mir, l₈) ∷ (word, l₉) ∷ (word, l₁₀) ∷ (word, l₁₁) ∷ (ConfigurationL.mir, l₁₂) ∷ (AnswerL.mir, l₁₃) ∷ (tyBool, l₁₄) ∷ (word, l₁₅) ∷ (tyPtr, l₁₆) ∷ (StepL.mir, l₁₇) ∷ (tyRef erased mut historyTy, l₁₈) ∷ (word, l₁₉) ∷ (tyPtr, l₂₀) ∷ (StateL.mir, l₂₁) ∷ (historyTy, l₂₂) ∷ []
 
       -- the locals at the loop's head, local k at 2 · (22 − k), and what stands after them
       abbrev Locals : ℕ → NextConfiguration → List ℕ → List (Item 𝓤) → List (Item 𝓤)
@@ -594,7 +583,7 @@ module _ {M : Type 1} (𝓤 : URA M) (H : Heap 𝓤) (A : Atoms 𝓤) (W : Given
           ∷ ‵ (fat fullShare NextL.mir l₈ 0 (next-val last)) ∷ ‵ (fdies NextL.mir l₈)
           ∷ ‵ (fat fullShare historyTy l₇ 0 (history-val hs)) ∷ ‵ (fdies historyTy l₇)
           ∷ ‵ (fat fullShare word l₆ 0 (vint w64 count)) ∷ ‵ (fdies word l₆)
-          ∷ ‵ (fat fullShare GoingL.mir l₅ 0 (going-val going)) ∷ ‵ (fdies GoingL.mir l₅)
+          ∷ ‵ (fat fullShare AdmissionL.mir l₅ 0 (admission-val admitted)) ∷ ‵ (fdies AdmissionL.mir l₅)
           ∷ ‵ (fat fullShare answersTy l₄ 0 (sliceVal (b′, o′) m)) ∷ ‵ (fdies answersTy l₄)
           ∷ ‵ (fat fullShare stepsTy l₃ 0 (sliceVal (b, o) n)) ∷ ‵ (fdies stepsTy l₃)
           ∷ ‵ (fat fullShare StateL.mir l₂ 0 (state-val st₀)) ∷ ‵ (fdies StateL.mir l₂)
@@ -715,14 +704,14 @@ module _ {M : Type 1} (𝓤 : URA M) (H : Heap 𝓤) (A : Atoms 𝓤) (W : Given
         pass1 ! (init ! 42 refl (SL.lawful ListT.the-type ListL.the-laws 𝓤 H A W .typed list _ gl .0)) $ pass1 ! (init ! 40 refl (state-typed st₀ gs)) $ pass1 ! (init ! 38 refl (tt, (tt, (record { fits = gn .0 }, tt)))) $ pass1 ! (init ! 36 refl (tt, (tt, (record { fits = gm .0 }, tt)))) $ pass0 ! $
         assigns ! (of-opd ! (load ! (from ! (fld ! refl (stop !))) (look-in ! 38 (sub ! 1 refl (whole !))))) (from ! (stop !)) (init ! 24 refl (tt, record { fits = gn .0 })) $
         assigns ! (of-opd ! (load ! (from ! (fld ! refl (stop !))) (look-in ! 36 (sub ! 1 refl (whole !))))) (from ! (stop !)) (init ! 22 refl (tt, record { fits = gm .0 })) $
-        use0 W (raw (Plan 𝓤 H A mem run .pre (to-plan 𝓤 H A mem run list st₀ n m))) (asks-plan 𝓤 H A mem run W list st₀ n m gl gs (gn .0) (gm .0)) $
-        calls-at ! fm (Plan 𝓤 H A mem run) known-plan (to-plan 𝓤 H A mem run list st₀ n m) (and-then ! (load ! (from ! (stop !)) (look ! 43 refl)) (and-then ! (load ! (from ! (stop !)) (look ! 41 refl)) (and-then ! (load ! (from ! (stop !)) (look ! 25 refl)) (and-then ! (load ! (from ! (stop !)) (look ! 23 refl)) (no-more !))))) (λ u.
-        use1 W (later (some (λ (r : Going). (‵ ftrue ⊛ ‵ (GoingT.the-row .own r (u ∷ []))) ⊛ raw (ensured 𝓤 H A plan.ended (plan.clauses 𝓤 H A mem run) tt (list, (st₀, (n, (m, tt)))) tt r)))) (id⊢ 𝓤 _) $ await ! tt $ pick ! (λ r.
-        split ! $ move ! (1 ∷ []) $ use1 W (raw (fact 𝓤 (r ≡ going))) (plan-said 𝓤 H A mem run list st₀ n m r) $ heard ! (r ≡ going) (λ e. split ! $ drop ! $
-        facts ! GoingT.the-row (Is GoingT.the-row) (shows 𝓤 H A GoingT.the-row) r (u ∷ []) (λ is.
-        land ! (from ! (stop !)) (init ! 34 refl (SL.lawful GoingT.the-type GoingL.the-laws 𝓤 H A W .typed r _ is .0)) $
-        rewrite ! 34 (λ (v : Val). ‵ (fat fullShare GoingL.mir l₅ 0 v)) (ap only (SL.tells GoingT.the-type GoingL.the-laws r (u ∷ []) is) ∙ ap going-val e) refl $
-        assigns ! (of-opd ! (load ! (from ! (fld ! refl (stop !))) (look-in ! 34 (sub ! 1 refl (whole !))))) (from ! (stop !)) (init ! 32 refl (tt, record { fits = SL.owed GoingT.the-type GoingL.the-laws going _ (is-going r u e is) .1 .0 .1 })) $
+        use0 W (raw (Admit 𝓤 H A mem run .pre (to-admit 𝓤 H A mem run list st₀ n m))) (asks-admit 𝓤 H A mem run W list st₀ n m gl gs (gn .0) (gm .0)) $
+        calls-at ! fm (Admit 𝓤 H A mem run) known-admit (to-admit 𝓤 H A mem run list st₀ n m) (and-then ! (load ! (from ! (stop !)) (look ! 43 refl)) (and-then ! (load ! (from ! (stop !)) (look ! 41 refl)) (and-then ! (load ! (from ! (stop !)) (look ! 25 refl)) (and-then ! (load ! (from ! (stop !)) (look ! 23 refl)) (no-more !))))) (λ u.
+        use1 W (later (some (λ (r : Admission). (‵ ftrue ⊛ ‵ (AdmissionT.the-row .own r (u ∷ []))) ⊛ raw (ensured 𝓤 H A admit.ended (admit.clauses 𝓤 H A mem run) tt (list, (st₀, (n, (m, tt)))) tt r)))) (id⊢ 𝓤 _) $ await ! tt $ pick ! (λ r.
+        split ! $ move ! (1 ∷ []) $ use1 W (raw (fact 𝓤 (r ≡ admitted))) (admit-said 𝓤 H A mem run list st₀ n m r) $ heard ! (r ≡ admitted) (λ e. split ! $ drop ! $
+        facts ! AdmissionT.the-row (Is AdmissionT.the-row) (shows 𝓤 H A AdmissionT.the-row) r (u ∷ []) (λ is.
+        land ! (from ! (stop !)) (init ! 34 refl (SL.lawful AdmissionT.the-type AdmissionL.the-laws 𝓤 H A W .typed r _ is .0)) $
+        rewrite ! 34 (λ (v : Val). ‵ (fat fullShare AdmissionL.mir l₅ 0 v)) (ap only (SL.tells AdmissionT.the-type AdmissionL.the-laws r (u ∷ []) is) ∙ ap admission-val e) refl $
+        assigns ! (of-opd ! (load ! (from ! (fld ! refl (stop !))) (look-in ! 34 (sub ! 1 refl (whole !))))) (from ! (stop !)) (init ! 32 refl (tt, record { fits = SL.owed AdmissionT.the-type AdmissionL.the-laws admitted _ (is-admission r u e is) .1 .0 .1 })) $
         -- the state is taken apart
         assigns ! (of-opd ! (load ! (from ! (fld ! {τ = historyTy} {d = 1160} refl (stop !))) (look-in ! 40 (sub ! 5 {τ = historyTy} {d = 1160} refl (whole !))))) (from ! (stop !)) (init ! 30 refl (history-typed (held (st₀ .history)) (held-history st₀ gs))) $
         rewrite ! 30 (λ (hs : List ℕ). ‵ (fat fullShare historyTy l₇ 0 (history-val hs))) (held-same (st₀ .history)) refl $
@@ -736,19 +725,19 @@ module _ {M : Type 1} (𝓤 : URA M) (H : Heap 𝓤) (A : Atoms 𝓤) (W : Given
         assigns ! (agg ! (and-then ! (lit ! tt) (and-then ! (lit ! tt) (and-then ! (lit ! tt) (no-more !))))) (from ! (stop !)) (init ! 18 refl (answer-typed unread is-unread)) $
         assigns ! (agg ! (and-then ! (load ! (from ! (stop !)) (look ! 20 refl)) (and-then ! (load ! (from ! (stop !)) (look ! 18 refl)) (no-more !)))) (from ! (stop !)) (init ! 28 refl (next-typed (before-all st₀) (is-before st₀ gs))) $
         assigns ! (of-opd ! (lit ! tt)) (from ! (stop !)) (init ! 26 refl (tt, record { fits = lit< tt })) $
-        loop-runs (is-going r u e is) l₀ l₁ l₂ l₃ l₄ l₅ l₆ l₇ l₈ l₉ l₁₀ l₁₁ l₁₂ l₁₃ l₁₄ l₁₅ l₁₆ l₁₇ l₁₈ l₁₉ l₂₀ l₂₁ l₂₂)))))))))))))))))))))))))))))))
+        loop-runs (is-admission r u e is) l₀ l₁ l₂ l₃ l₄ l₅ l₆ l₇ l₈ l₉ l₁₀ l₁₁ l₁₂ l₁₃ l₁₄ l₁₅ l₁₆ l₁₇ l₁₈ l₁₉ l₂₀ l₂₁ l₂₂)))))))))))))))))))))))))))))))
       where
-        is-going : (r : Going) (u : Val) → r ≡ going → Is GoingT.the-row r (u ∷ []) → IsGoing going
-        is-going r u e is = subst IsGoing e (subst (Is GoingT.the-row r) (SL.tells GoingT.the-type GoingL.the-laws r (u ∷ []) is) is)
+        is-admission : (r : Admission) (u : Val) → r ≡ admitted → Is AdmissionT.the-row r (u ∷ []) → IsAdmission admitted
+        is-admission r u e is = subst IsAdmission e (subst (Is AdmissionT.the-row r) (SL.tells AdmissionT.the-type AdmissionL.the-laws r (u ∷ []) is) is)
 
 module _ {M : Type 1} (𝓤 : URA M) (H : Heap 𝓤) (A : Atoms 𝓤) (W : Given 𝓤 H A) (mem : Memory → SProp 𝓤) (run : Routine → Fun 𝓤) (𝓣 : Tables 𝓤 H)
-    (known-plan : Triple 𝓤 (𝓣 .C #plan) (Plan 𝓤 H A mem run)) (known-apart : Triple 𝓤 (𝓣 .C #apart) (Apart 𝓤 H A mem run)) (known-decided : Triple 𝓤 (𝓣 .C #decided) (Decided 𝓤 H A mem run)) (known-word : Triple 𝓤 (𝓣 .C #word) (Word 𝓤 H A mem run)) (known-together : Triple 𝓤 (𝓣 .C #together) (Together 𝓤 H A mem run)) where
+    (known-admit : Triple 𝓤 (𝓣 .C #admit) (Admit 𝓤 H A mem run)) (known-apart : Triple 𝓤 (𝓣 .C #apart) (Apart 𝓤 H A mem run)) (known-decided : Triple 𝓤 (𝓣 .C #decided) (Decided 𝓤 H A mem run)) (known-word : Triple 𝓤 (𝓣 .C #word) (Word 𝓤 H A mem run)) (known-together : Triple 𝓤 (𝓣 .C #together) (Together 𝓤 H A mem run)) where
   run-walks : Walks 𝓤 H A run′.ended stayed (WpFn 𝓤 H (𝓣 .C) (𝓣 .Λ) code.function) (run′.clauses 𝓤 H A mem run)
   run-walks = walked 𝓤 H A run′.ended stayed (run′.clauses 𝓤 H A mem run) (WpFn 𝓤 H (𝓣 .C) (𝓣 .Λ) code.function)
       (λ κs. (SL.vals ListT.the-type ListL.the-laws, (SL.vals StateT.the-type StateL.the-laws, (slice-vals, (slice-vals, tt))))) (λ κs. (SL.tells ListT.the-type ListL.the-laws, (SL.tells StateT.the-type StateL.the-laws, (shr-slice-tells (named 0) (κs .0) StepT.the-row, (mut-slice-tells (named 1) (κs .1 .0) u64, tt)))))
       (λ κs qs bounds a g are. via 𝓤 _ (fst∗ 𝓤 _ (emp 𝓤))
       (walk 𝓤 H A W mem run (κs .0) (κs .1 .0) (qs .0) (qs .1 .0) (a .0) (a .1 .0) (a .1 .1 .0 .ptr .0) (a .1 .1 .0 .ptr .1) (a .1 .1 .0 .name) (a .1 .1 .0 .now) (a .1 .1 .1 .0 .ptr .0) (a .1 .1 .1 .0 .ptr .1) (a .1 .1 .1 .0 .name) (a .1 .1 .1 .0 .now)
-      (are .0) (are .1 .0) (are .1 .1 .0 .0 .1) (are .1 .1 .1 .0 .0 .1) 𝓣 known-plan known-apart known-decided known-word known-together))
+      (are .0) (are .1 .0) (are .1 .1 .0 .0 .1) (are .1 .1 .1 .0 .0 .1) 𝓣 known-admit known-apart known-decided known-word known-together))
 
   run-meets : Meets 𝓤 H A run′.signature (WpFn 𝓤 H (𝓣 .C) (𝓣 .Λ) code.function) (run′.spec 𝓤 H A mem run)
   run-meets = walk-meets 𝓤 H A run′.ended stayed W
@@ -761,8 +750,8 @@ run-spec 𝓤 H 𝓜 𝓖 𝓡 =
     entered 𝓤 H (tripleOf 𝓤 H (𝓖 .A) run′.signature (run′.spec 𝓤 H (𝓖 .A) (𝓜 .mem) (𝓡 .run)))
     (tables 𝓤 H 𝓜 𝓡 code.env .C) (tables 𝓤 H 𝓜 𝓡 code.env .Λ) #run code.function (code.unfolded 𝓤 H 𝓜 𝓡)
     (run-meets 𝓤 H (𝓖 .A) (givenOf 𝓤 H 𝓜 𝓖) (𝓜 .mem) (𝓡 .run) (tablesOf 𝓤 H 𝓜 (tables 𝓤 H 𝓜 𝓡 code.env))
-    (cited 𝓤 H (Plan 𝓤 H (𝓖 .A) (𝓜 .mem) (𝓡 .run)) 𝓜 𝓡 code.env #plan plan-def.routine code.calls-enforcement·runs·plan (plan-thm.met 𝓤 H 𝓜 𝓖 𝓡))
+    (cited 𝓤 H (Admit 𝓤 H (𝓖 .A) (𝓜 .mem) (𝓡 .run)) 𝓜 𝓡 code.env #admit admit-def.routine code.calls-enforcement·runs·admit (admit-thm.met 𝓤 H 𝓜 𝓖 𝓡))
     (cited 𝓤 H (Apart 𝓤 H (𝓖 .A) (𝓜 .mem) (𝓡 .run)) 𝓜 𝓡 code.env #apart apart-def.routine code.calls-enforcement·states·State·configuration (apart-thm.met 𝓤 H 𝓜 𝓖 𝓡))
     (cited 𝓤 H (Decided 𝓤 H (𝓖 .A) (𝓜 .mem) (𝓡 .run)) 𝓜 𝓡 code.env #decided decided-def.routine code.calls-enforcement·configurations·Configuration·decided (decided-thm.met 𝓤 H 𝓜 𝓖 𝓡))
-    (cited 𝓤 H (Word 𝓤 H (𝓖 .A) (𝓜 .mem) (𝓡 .run)) 𝓜 𝓡 code.env #word word-def.routine code.calls-enforcement·steps·Answer·word (word-thm.met 𝓤 H 𝓜 𝓖 𝓡))
+    (cited 𝓤 H (Word 𝓤 H (𝓖 .A) (𝓜 .mem) (𝓡 .run)) 𝓜 𝓡 code.env #word word-def.routine code.calls-enforcement·runs·word (word-thm.met 𝓤 H 𝓜 𝓖 𝓡))
     (cited 𝓤 H (Together 𝓤 H (𝓖 .A) (𝓜 .mem) (𝓡 .run)) 𝓜 𝓡 code.env #together together-def.routine code.calls-enforcement·configurations·Configuration·with-history (together-thm.met 𝓤 H 𝓜 𝓖 𝓡)))

@@ -2,7 +2,7 @@
 -- Assumes nothing.
 use mathlib.Core.Path.{refl}
 use Rattle.enforcement.specs.Steps.{check}
-use Rattle.enforcement.proofs.Requests.{decide-refused}
+use Rattle.enforcement.proofs.RequestLaws.{decide-refused}
 use Rattle.enforcement.proofs.Answering.{told-ranged, told-decided}
 use borrow.Author.Needs.{needs}
 use Rattle.enforcement.proofs.configurations.Configuration.decided.Statement.{statement}
@@ -13,6 +13,9 @@ action-requires c κs = search needs
 
 enum-told : tie.Need-enum-told
 enum-told c = search needs
+
+refused-requires : tie.Need-refused-requires
+refused-requires c κs = search needs
 
 enum-known-user : tie.Need-enum-known-user
 enum-known-user c = search needs
@@ -94,7 +97,7 @@ clock-requires c κs = search needs
 
 returns : tie.Need-returns
 unfolding check
-returns c = told-decided _ _ _ (c .before .before .action .ensures) (c .enum-told .given .1) _ _ _ (decide-refused _ _ _ 20 refl)
+returns c = told-decided _ _ _ (c .before .before .before .action .ensures) (c .before .enum-told .given .1) _ _ _ (rw (c .refused .ensures) (decide-refused _ _ _ 20 refl))
 
 returns-2 : tie.Need-returns-2
 returns-2 c = told-decided _ _ _ (c .before .before .before .before .before .action .ensures) (c .before .before .before .user .given .1) _ _ _ (c .assign .ensures)
@@ -141,6 +144,7 @@ decided-spec =
     (tie.spec
     action-requires
     enum-told
+    refused-requires
     enum-known-user
     assign-requires
     enum-known-user-2

@@ -9,14 +9,8 @@ use Rattle.enforcement.proofs.configurations.Configuration.lost.Tie as 
 placed-requires : tie.Need-placed-requires
 placed-requires c κs = search needs
 
-mul-place : tie.Need-mul-place
-mul-place c = search needs
-
-element-set-from-place : tie.Need-element-set-from-place
-element-set-from-place c = search needs
-
 returns : tie.Need-returns
-returns c history = c .before .placed .ensures .1 _ _ history ∙ lost-placed _ _ _
+returns c = λ history. c .placed .ensures history ∙ lost-placed _ _ _
 
 pub lost-spec : {M : Type 1} → statement M
-lost-spec = tie.close (tie.spec placed-requires mul-place element-set-from-place returns)
+lost-spec = tie.close (tie.spec placed-requires returns)

@@ -4,7 +4,7 @@ use mathlib.Core.Path.{_≡_, ap₂, _∙_}
 use lib.IntN.{ℤ}
 use borrow.Author.Needs.{needs}
 use mir.Facts.{toZ-ofZ}
-use Rattle.enforcement.specs.Steps.{moved}
+use Rattle.steps.specs.Steps.{moved}
 use Rattle.enforcement.specs.Gate.{stepOf}
 use Rattle.enforcement.proofs.states.State.move_to.Statement.{statement}
 use Rattle.enforcement.proofs.states.State.move_to.Tie as tie
@@ -15,7 +15,7 @@ step-requires c κs = search needs
 returns : tie.Need-returns
 returns c =
     let start = c .before in
-    c .step .ensures
+    c .step .ensures .0
     ∙ ap₂ (λ (x y : ℤ). stepOf (start .args .list) (start .args .self) (moved (start .args .session) x y)) (toZ-ofZ (start .fits .x)) (toZ-ofZ (start .fits .y))
 
 pub move-to-spec : {M : Type 1} → statement M

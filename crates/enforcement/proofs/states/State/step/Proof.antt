@@ -1,13 +1,49 @@
 -- `enforcement::states::State::step` meets its contract.
 -- Assumes nothing.
-use mathlib.Core.Path.{sym, ap, ap₂, _∙_}
-use mathlib.Core.Bool.{Bool, _&&_}
+use mathlib.Core.Path.{_≡_, sym, ap, ap₂, _∙_}
+use mathlib.Core.Bool.{Bool, true, _&&_}
+use lib.ListN.{length-map}
+use mir.Syntax.{w32, w64}
 use borrow.Author.Tests.{not-true, not-false}
+use Rattle.rules.specs.Acceptance.{rulesOf, listAccepted}
+use Rattle.steps.specs.Steps.{actionOf}
 use Rattle.enforcement.specs.States.{stateAccepted}
+use Rattle.enforcement.specs.Gate.{stepOf}
+use Rattle.enforcement.specs.Narrow.{Narrow}
+use Rattle.enforcement.specs.Reached.{Typed}
+use Rattle.enforcement.specs.declared.states.Next.{Next}
+use Rattle.enforcement.proofs.Agreement.{selected-only}
 use Rattle.enforcement.proofs.Answering.{step-unaccepted, step-parts, accepted-length}
+use Rattle.enforcement.proofs.Typing.{words-small}
 use borrow.Author.Needs.{needs}
 use Rattle.enforcement.proofs.states.State.step.Statement.{statement}
 use Rattle.enforcement.proofs.states.State.step.Tie as tie
+
+-- a state that is handed in is a value of its type
+typed : (c : tie.Start) → Typed (c .args .t1)
+typed c =
+    let s = c .args .t1 in
+    let fields = c .good .0 .1 .1 in
+    record {
+      users = sym (length-map (s .assigned) _) ∙ fields .1 .0 .1 .0 .1;
+      roles = sym (length-map (s .granted) _) ∙ fields .1 .1 .0 .1 .0 .1;
+      allSessions = sym (length-map (s .sessions) _) ∙ fields .1 .1 .1 .0 .1 .0 .1;
+      actives = sym (length-map (s .active) _) ∙ fields .1 .1 .1 .1 .0 .1 .0 .1;
+      records = sym (length-map (s .history) _) ∙ fields .1 .1 .1 .1 .1 .0 .1 .0 .1;
+      smallAssigned = words-small w32 (s .assigned) (fields .1 .0 .0) (fields .1 .0 .1 .1);
+      smallGranted = words-small w32 (s .granted) (fields .1 .1 .0 .0) (fields .1 .1 .0 .1 .1);
+      smallActive = words-small w32 (s .active) (fields .1 .1 .1 .1 .0 .0) (fields .1 .1 .1 .1 .0 .1 .1);
+      smallHistory = words-small w64 (s .history) (fields .1 .1 .1 .1 .1 .0 .0) (fields .1 .1 .1 .1 .1 .0 .1 .1);
+    }
+
+-- what is given is what document 01 says with the selected rules alone
+both-kept : (c : tie.Start) (next : Next) → next ≡ stepOf (c .args .list) (c .args .t1) (c .args .step) →
+    (next ≡ stepOf (c .args .list) (c .args .t1) (c .args .step))
+    × (listAccepted (c .args .list) ≡ true → stateAccepted (c .args .t1) ≡ true → Narrow (rulesOf (c .args .list)) (c .args .t1) (actionOf (c .args .step)) next)
+both-kept c next given = (
+  given,
+  λ listed stated. selected-only (c .args .list) listed (c .args .t1) (record { typed = typed c; unrefused = stated }) (c .args .step) next .0 given,
+)
 
 is-accepted-requires : tie.Need-is-accepted-requires
 is-accepted-requires c κs = search needs
@@ -16,7 +52,10 @@ refused-requires : tie.Need-refused-requires
 refused-requires c κs = search needs
 
 returns : tie.Need-returns
-returns c = c .refused .ensures ∙ step-unaccepted (c .before .before .before .args .list) (c .before .before .before .args .t1) (c .before .before .before .args .step) (ap (λ (a : Bool). a && stateAccepted (c .before .before .before .args .t1)) (sym (c .before .before .is-accepted .ensures) ∙ not-true _ (c .before .if1 .taken)))
+returns c =
+    let start = c .before .before .before in
+    both-kept start _
+    (c .refused .ensures ∙ step-unaccepted (start .args .list) (start .args .t1) (start .args .step) (ap (λ (a : Bool). a && stateAccepted (start .args .t1)) (sym (c .before .before .is-accepted .ensures) ∙ not-true _ (c .before .if1 .taken))))
 
 is-accepted-requires-2 : tie.Need-is-accepted-requires-2
 is-accepted-requires-2 c κs = search needs
@@ -26,7 +65,11 @@ refused-requires-2 c κs = search needs
 
 returns-2 : tie.Need-returns-2
 unfolding stateAccepted
-returns-2 c = c .refused2 .ensures ∙ step-unaccepted (c .before .before .before .before .before .before .before .before .args .list) (c .before .before .before .before .before .before .before .before .args .t1) (c .before .before .before .before .before .before .before .before .args .step) (ap₂ (λ (a d : Bool). a && d) (sym (c .before .before .before .before .before .before .before .is-accepted .ensures) ∙ not-false _ (c .before .before .before .before .before .before .if1 .left)) (sym (c .before .before .is-accepted2 .ensures) ∙ not-true _ (c .before .if2 .taken)))
+returns-2 c =
+    let start = c .before .before .before .before .before .before .before .before in
+    let listed = sym (c .before .before .before .before .before .before .before .is-accepted .ensures) ∙ not-false _ (c .before .before .before .before .before .before .if1 .left) in
+    both-kept start _
+    (c .refused2 .ensures ∙ step-unaccepted (start .args .list) (start .args .t1) (start .args .step) (ap₂ (λ (a d : Bool). a && d) listed (sym (c .before .before .is-accepted2 .ensures) ∙ not-true _ (c .before .if2 .taken))))
 
 configuration-requires : tie.Need-configuration-requires
 configuration-requires c κs = search needs
@@ -40,11 +83,11 @@ with-history-requires c κs = search needs
 returns-3 : tie.Need-returns-3
 unfolding stateAccepted
 returns-3 c =
-    let list = c .before .before .before .before .before .before .before .before .before .before .before .before .before .args .list in
-    let s = c .before .before .before .before .before .before .before .before .before .before .before .before .before .args .t1 in
+    let start = c .before .before .before .before .before .before .before .before .before .before .before .before .before in
     let listed = sym (c .before .before .before .before .before .before .before .before .before .before .before .before .is-accepted .ensures) ∙ not-false _ (c .before .before .before .before .before .before .before .before .before .before .before .if1 .left) in
     let stated = sym (c .before .before .before .before .before .before .before .is-accepted2 .ensures) ∙ not-false _ (c .before .before .before .before .before .before .if2 .left) in
-    step-parts list s (c .before .before .before .before .before .before .before .before .before .before .before .before .before .args .step) _ _ _ _ (ap₂ (λ (a d : Bool). a && d) listed stated) (c .before .before .before .before .configuration .ensures) (c .before .before .decided .ensures) (c .with-history .ensures)
+    both-kept start _
+    (step-parts (start .args .list) (start .args .t1) (start .args .step) _ _ _ _ (ap₂ (λ (a d : Bool). a && d) listed stated) (c .before .before .before .before .configuration .ensures) (c .before .before .decided .ensures) (c .with-history .ensures))
 
 pub step-spec : {M : Type 1} → statement M
 step-spec =

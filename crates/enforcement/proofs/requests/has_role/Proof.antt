@@ -1,0 +1,32 @@
+-- `enforcement::requests::has_role` meets its contract.
+-- Assumes nothing.
+use mathlib.Core.Path.{sym}
+use Rattle.enforcement.proofs.RequestLaws.{outside-none}
+use denote.Ref.{now}
+use borrow.Author.Needs.{needs}
+use Rattle.enforcement.proofs.requests.has_role.Statement.{statement}
+use Rattle.enforcement.proofs.requests.has_role.Tie as tie
+
+-- src/states.rt:372:9
+returns : tie.Need-returns
+returns c = sym (outside-none (now (c .before .args .held)) (c .before .args .user) (c .before .args .role) (search needs))
+
+-- src/states.rt:374:20
+mul-member : tie.Need-mul-member
+mul-member c = search needs
+
+-- src/states.rt:374:20
+element-copy-out-member : tie.Need-element-copy-out-member
+element-copy-out-member c = search needs
+
+-- src/states.rt:374:5
+member-requires : tie.Need-member-requires
+member-requires c κs = search needs
+
+-- src/states.rt:367:1
+returns-2 : tie.Need-returns-2
+returns-2 c = search needs
+
+pub has-role-spec : {M : Type 1} → statement M
+has-role-spec =
+    tie.close (tie.spec returns mul-member element-copy-out-member member-requires returns-2)

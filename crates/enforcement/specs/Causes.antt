@@ -1,0 +1,97 @@
+-- The causes of 20 to 28 and of 40, each in plain quantifiers over what can be observed. That the gate gives a number exactly for its cause
+-- is proved in proofs/Causes.antt.
+-- Assumes nothing.
+use mathlib.Core.Path.{_≡_}
+use mathlib.Core.Bool.{true, false}
+use mathlib.Core.Logic.{_⊎_}
+use mathlib.Core.List.{List, [], _∷_}
+use Prim.Native.Nat.{ℕ, _≤_, _<_}
+use Rattle.places.specs.Places.{positionInRange}
+use Rattle.places.specs.declared.Position.the-variants.{Unknown, Known}
+use Rattle.places.specs.declared.Point.{Point}
+use Rattle.steps.specs.declared.actions.Action.{Action}
+use Rattle.steps.specs.declared.actions.Action.the-variants.{Malformed, Assign, Withdraw, Grant, Take, Open, Activate, Deactivate, Access, Finish, Close, Move, Lost, Clock}
+use Rattle.enforcement.specs.States.{assignedRole, holdsRole, carries, isOpen, userOf, positionOf, activeRole}
+use Rattle.enforcement.specs.declared.states.State.{State}
+use Rattle.steps.specs.declared.steps.Step.{Step}
+
+-- ---- the causes of 20 to 28
+
+-- the step's kind and numbers are those of the action, each in its range; where there is no such action the cause of 20 is there
+abbrev pub Writes : Step → Action → Type 0
+Writes step Malformed = ⊥
+Writes step (Assign u r) = (step .kind ≡ 0) × (step .first ≡ u) × (step .second ≡ r) × (u < 64) × (r < 32)
+Writes step (Withdraw u r) = (step .kind ≡ 1) × (step .first ≡ u) × (step .second ≡ r) × (u < 64) × (r < 32)
+Writes step (Grant r p) = (step .kind ≡ 2) × (step .first ≡ r) × (step .second ≡ p) × (r < 32) × (p < 32)
+Writes step (Take r p) = (step .kind ≡ 3) × (step .first ≡ r) × (step .second ≡ p) × (r < 32) × (p < 32)
+Writes step (Open i u) = (step .kind ≡ 4) × (step .first ≡ i) × (step .second ≡ u) × (i < 32) × (u < 64)
+Writes step (Activate i r) = (step .kind ≡ 5) × (step .first ≡ i) × (step .second ≡ r) × (i < 32) × (r < 32)
+Writes step (Deactivate i r) = (step .kind ≡ 6) × (step .first ≡ i) × (step .second ≡ r) × (i < 32) × (r < 32)
+Writes step (Access i p o) = (step .kind ≡ 7) × (step .first ≡ i) × (step .second ≡ p) × (step .third ≡ o) × (i < 32) × (p < 32) × (o < 32)
+Writes step (Finish o) = (step .kind ≡ 8) × (step .first ≡ o) × (o < 32)
+Writes step (Close i) = (step .kind ≡ 9) × (step .first ≡ i) × (i < 32)
+Writes step (Move i point) = (step .kind ≡ 10) × (step .first ≡ i) × (step .x ≡ point .x) × (step .y ≡ point .y) × (i < 32) × (positionInRange (Known point) ≡ true)
+Writes step (Lost i) = (step .kind ≡ 11) × (step .first ≡ i) × (i < 32)
+Writes step (Clock t) = (step .kind ≡ 12) × (step .first ≡ t) × (t ≤ 3155759999)
+
+-- the table's second column: the numbers of a step's checks before 30, in their order
+abbrev pub checksOf : Action → List ℕ
+checksOf Malformed = 20 ∷ []
+checksOf (Assign u r) = 24 ∷ []
+checksOf (Withdraw u r) = 25 ∷ 27 ∷ []
+checksOf (Grant r p) = 24 ∷ []
+checksOf (Take r p) = 25 ∷ []
+checksOf (Open i u) = 22 ∷ []
+checksOf (Activate i r) = 23 ∷ 24 ∷ 26 ∷ []
+checksOf (Deactivate i r) = 23 ∷ 25 ∷ []
+checksOf (Access i p o) = 23 ∷ 28 ∷ []
+checksOf (Finish o) = []
+checksOf (Close i) = 23 ∷ []
+checksOf (Move i point) = 23 ∷ []
+checksOf (Lost i) = 23 ∷ []
+checksOf (Clock t) = 21 ∷ []
+
+-- the cause of a number for a step: one line for each number in the table's second column
+pub data Cause (s : State) : Action → ℕ → Type 0 where
+  malformed : Cause s Malformed 20
+  -- "t before the present time"
+  past : (t : ℕ) → t < s .time → Cause s (Clock t) 21
+  -- "session open"
+  open-already : (i u : ℕ) → isOpen s i ≡ true → Cause s (Open i u) 22
+  -- "session not open"
+  activate-closed : (i r : ℕ) → isOpen s i ≡ false → Cause s (Activate i r) 23
+  deactivate-closed : (i r : ℕ) → isOpen s i ≡ false → Cause s (Deactivate i r) 23
+  access-closed : (i p o : ℕ) → isOpen s i ≡ false → Cause s (Access i p o) 23
+  close-closed : (i : ℕ) → isOpen s i ≡ false → Cause s (Close i) 23
+  move-closed : (i : ℕ) (point : Point) → isOpen s i ≡ false → Cause s (Move i point) 23
+  lost-closed : (i : ℕ) → isOpen s i ≡ false → Cause s (Lost i) 23
+  -- "already assigned, granted, active in this session"
+  assign-already : (u r : ℕ) → holdsRole s u r ≡ true → Cause s (Assign u r) 24
+  grant-already : (r p : ℕ) → carries s r p ≡ true → Cause s (Grant r p) 24
+  activate-already : (i r : ℕ) → activeRole s i r ≡ true → Cause s (Activate i r) 24
+  -- "not assigned, granted, active in this session"
+  withdraw-not : (u r : ℕ) → assignedRole s u r ≡ false → Cause s (Withdraw u r) 25
+  take-not : (r p : ℕ) → carries s r p ≡ false → Cause s (Take r p) 25
+  deactivate-not : (i r : ℕ) → activeRole s i r ≡ false → Cause s (Deactivate i r) 25
+  -- "role not assigned to the session's user"
+  activate-unheld : (i r : ℕ) → holdsRole s (userOf s i) r ≡ false → Cause s (Activate i r) 26
+  -- "role active in a session of the user"
+  withdraw-active : (u r i : ℕ) → i < 32 → userOf s i ≡ u → activeRole s i r ≡ true → Cause s (Withdraw u r) 27
+  -- "no role active in the session carries the permission"
+  access-uncarried : (i p o : ℕ) → ((r : ℕ) → r < 32 → activeRole s i r ≡ true → carries s r p ≡ true → ⊥) → Cause s (Access i p o) 28
+
+-- of a step's numbers, the first whose cause is there
+abbrev pub FirstCause : State → Action → List ℕ → ℕ → Type 0
+FirstCause s action [] n = ⊥
+FirstCause s action (number ∷ rest) n = ((n ≡ number) × Cause s action number) ⊎ ((Cause s action number → ⊥) × FirstCause s action rest n)
+
+-- ---- the cause of 40 in a state
+
+-- "field outside its range, closed session that keeps anything"
+pub data Unaccepted (s : State) : Type 0 where
+  late : 3155759999 < s .time → Unaccepted s
+  user-past : (i : ℕ) → i < 32 → isOpen s i ≡ true → 64 ≤ userOf s i → Unaccepted s
+  off-grid : (i : ℕ) → i < 32 → isOpen s i ≡ true → positionInRange (positionOf s i) ≡ false → Unaccepted s
+  keeps-user : (i : ℕ) → i < 32 → isOpen s i ≡ false → (userOf s i ≡ 0 → ⊥) → Unaccepted s
+  keeps-position : (i : ℕ) → i < 32 → isOpen s i ≡ false → (positionOf s i ≡ Unknown → ⊥) → Unaccepted s
+  keeps-role : (i r : ℕ) → i < 32 → isOpen s i ≡ false → activeRole s i r ≡ true → Unaccepted s
