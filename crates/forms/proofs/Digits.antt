@@ -8,7 +8,7 @@ use lib.ListN.{length, drop, getD, length-append}
 use lib.Dec.{ltb, leb, eqb}
 use borrow.Author.Tests.{lt-ltb, le-ltb, le-leb, lt-leb, eq-eqb, ne-eqb, ltb-true, ltb-false, leb-true, leb-false, eqb-true, eqb-false}
 use Rattle.sets.proofs.Booleans.{both, clash}
-use Rattle.forms.specs.Numbers.{digitsWithin, digitsOf, digitsFrom, readNumber, numberOf, nothing, longer, isDigit}
+use Rattle.forms.specs.Numbers.{digitsWithin, digitsOf, digitsFrom, readNumber, valueAndLength, nothing, longer, isDigit}
 use Rattle.forms.specs.declared.numbers.Number.{Number}
 
 -- the bound on the recursion does not matter where it is large enough
@@ -68,8 +68,8 @@ sound-from (c ∷ s) a h = go (more a c) refl (λ k. sound-from s (a * 10 + (c -
     go : (b : Bool) → more a c ≡ b
         → (1 ≤ a * 10 + (c - 48) → digitsOf (a * 10 + (c - 48)) ++ s ≡ digitsOf (digitsFrom s (a * 10 + (c - 48)) .value) ++ drop (digitsFrom s (a * 10 + (c - 48)) .length) s)
         → digitsOf a ++ (c ∷ s)
-        ≡ digitsOf (cond b (longer 1 (digitsFrom s (a * 10 + (c - 48)))) (numberOf a 0) .value)
-        ++ drop (cond b (longer 1 (digitsFrom s (a * 10 + (c - 48)))) (numberOf a 0) .length) (c ∷ s)
+        ≡ digitsOf (cond b (longer 1 (digitsFrom s (a * 10 + (c - 48)))) (valueAndLength a 0) .value)
+        ++ drop (cond b (longer 1 (digitsFrom s (a * 10 + (c - 48)))) (valueAndLength a 0) .length) (c ∷ s)
     go true e ih =
         let m = more-true a c e in
         let k : 48 + (c - 48) ≡ c = omega arith in
@@ -86,7 +86,7 @@ bound-from (c ∷ s) a h = go (more a c) refl (λ k. bound-from s (a * 10 + (c -
   where
     go : (b : Bool) → more a c ≡ b
         → (a * 10 + (c - 48) < 10000000000 → digitsFrom s (a * 10 + (c - 48)) .value < 10000000000)
-        → cond b (longer 1 (digitsFrom s (a * 10 + (c - 48)))) (numberOf a 0) .value < 10000000000
+        → cond b (longer 1 (digitsFrom s (a * 10 + (c - 48)))) (valueAndLength a 0) .value < 10000000000
     go true e ih = let m = more-true a c e in ih (omega arith)
     go false e ih = h
 
@@ -109,8 +109,8 @@ number-sound [] h = absurd (omega arith)
 number-sound (c ∷ s) h = go (eqb c 48) (isDigit c) refl refl h
   where
     go : (x y : Bool) → eqb c 48 ≡ x → isDigit c ≡ y
-        → 0 < cond x (numberOf 0 1) (cond y (longer 1 (digitsFrom s (c - 48))) nothing) .length
-        → Read (c ∷ s) (cond x (numberOf 0 1) (cond y (longer 1 (digitsFrom s (c - 48))) nothing))
+        → 0 < cond x (valueAndLength 0 1) (cond y (longer 1 (digitsFrom s (c - 48))) nothing) .length
+        → Read (c ∷ s) (cond x (valueAndLength 0 1) (cond y (longer 1 (digitsFrom s (c - 48))) nothing))
     go true y p q k = record { text = rw (digits-small 0 (omega arith)) (ap (λ (x : ℕ). x ∷ s) (eqb-true c 48 p)); small = omega arith }
     go false true p q k =
         let d = digit-true c q in
@@ -154,28 +154,28 @@ through (suc f) v p h k s = go (ltb v 10) refl (λ q. through f (v / 10) (omega 
         let i = ih (omega arith) in
         let j = read-next s (v / 10) (v % 10) (omega arith) (omega arith) in
         rw (digits-step v l, append-assoc, length-append, i, j, z)
-        (ap (numberOf (digitsFrom s v .value)) (omega arith))
+        (ap (valueAndLength (digitsFrom s v .value)) (omega arith))
 
 -- whether a text goes on with a digit
 abbrev pub digitAt : List ℕ → Bool
 digitAt [] = false
 digitAt (c ∷ s) = isDigit c
 
-no-more : (s : List ℕ) (a : ℕ) → digitAt s ≡ false → digitsFrom s a ≡ numberOf a 0
+no-more : (s : List ℕ) (a : ℕ) → digitAt s ≡ false → digitsFrom s a ≡ valueAndLength a 0
 unfolding digitsFrom
 no-more [] a h = refl
 no-more (c ∷ s) a h = rw h (go (ltb a 1000000000))
   where
-    go : (b : Bool) → cond (b && false) (longer 1 (digitsFrom s (a * 10 + (c - 48)))) (numberOf a 0) ≡ numberOf a 0
+    go : (b : Bool) → cond (b && false) (longer 1 (digitsFrom s (a * 10 + (c - 48)))) (valueAndLength a 0) ≡ valueAndLength a 0
     go true = refl
     go false = refl
 
 pub number-complete : (v : ℕ) → v < 10000000000 → (s : List ℕ) → digitAt s ≡ false
-    → readNumber (digitsOf v ++ s) ≡ numberOf v (length (digitsOf v))
+    → readNumber (digitsOf v ++ s) ≡ valueAndLength v (length (digitsOf v))
 unfolding readNumber
 number-complete zero h s d = rw (digits-small 0 (omega arith))
 number-complete (suc v) h s d =
-    through (suc v) (suc v) (omega arith) (omega arith) h s ∙ rw (no-more s (suc v) d) (ap (numberOf (suc v)) (omega arith))
+    through (suc v) (suc v) (omega arith) (omega arith) h s ∙ rw (no-more s (suc v) d) (ap (valueAndLength (suc v)) (omega arith))
 
 pub digits-pos : (v : ℕ) → 0 < length (digitsOf v)
 digits-pos v = go (ltb v 10) refl

@@ -11,7 +11,7 @@ use lib.Dec.{leb, eqb}
 use borrow.Author.Tests.{leb-true}
 use Rattle.sets.proofs.Booleans.{both}
 use Rattle.forms.specs.Forms.{head, fill, Match, unmatched, matched, scan, scanned, valuesFit, valuesIn}
-use Rattle.forms.specs.Tables.{linesIn, formAt, onFirst, foundAs, findIn, found, slots, parted, apart, apartFromAll, distinct}
+use Rattle.forms.specs.Tables.{linesIn, formAt, onFirst, foundAs, findIn, found, slotCount, parted, apart, apartFromAll, distinct}
 use Rattle.forms.specs.declared.tables.Found.{Found}
 use Rattle.forms.proofs.Matching.{Sound, sound, Within, within, complete, disjoint, item-pos}
 
@@ -36,12 +36,12 @@ hits-from [] s i c = record {
   fit = λ h. absurd (omega arith);
 }
 hits-from (t ∷ ts) s i c =
-    let p = both (parted t && leb (slots t) 6) (apartFromAll t ts && distinct ts) c in
-    let q = both (parted t) (leb (slots t) 6) (p .0) in
+    let p = both (parted t && leb (slotCount t) 6) (apartFromAll t ts && distinct ts) c in
+    let q = both (parted t) (leb (slotCount t) 6) (p .0) in
     let r = both (apartFromAll t ts) (distinct ts) (p .1) in
     go (scan t s) (sound t s) (within t s) (leb-true _ _ (q .1)) (hits-from ts s (suc i) (r .1))
   where
-    go : (m : Match) → Sound t s m → Within t s m → slots t ≤ 6 → HitsFrom ts s (suc i) (findIn ts (suc i) s)
+    go : (m : Match) → Sound t s m → Within t s m → slotCount t ≤ 6 → HitsFrom ts s (suc i) (findIn ts (suc i) s)
         → HitsFrom (t ∷ ts) s i (cond (scanned m .matches) (foundAs i (scanned m)) (findIn ts (suc i) s))
     go unmatched o w l ih =
         let n : findIn ts (suc i) s .form - i ≡ suc (findIn ts (suc i) s .form - suc i) = omega (arith, ih .low) in
@@ -73,9 +73,9 @@ apart-at t (u ∷ us) (suc k) a h = apart-at t us k (both (apart t u) (apartFrom
 parted-at : (ts : List (List ℕ)) (k : ℕ) → distinct ts ≡ true → k < length ts → parted (getD ts k []) ≡ true
 parted-at [] k c h = absurd (omega arith)
 parted-at (t ∷ ts) zero c h =
-    both (parted t) (leb (slots t) 6) (both (parted t && leb (slots t) 6) (apartFromAll t ts && distinct ts) c .0) .0
+    both (parted t) (leb (slotCount t) 6) (both (parted t && leb (slotCount t) 6) (apartFromAll t ts && distinct ts) c .0) .0
 parted-at (t ∷ ts) (suc k) c h =
-    parted-at ts k (both (apartFromAll t ts) (distinct ts) (both (parted t && leb (slots t) 6) (apartFromAll t ts && distinct ts) c .1) .1) (omega arith)
+    parted-at ts k (both (apartFromAll t ts) (distinct ts) (both (parted t && leb (slotCount t) 6) (apartFromAll t ts && distinct ts) c .1) .1) (omega arith)
 
 written-from : (ts : List (List ℕ)) (i k : ℕ) (ws s : List ℕ) → distinct ts ≡ true → k < length ts → valuesFit (getD ts k []) ws ≡ true
     → findIn ts i (fill (getD ts k []) ws ++ s)
@@ -84,7 +84,7 @@ unfolding findIn scanned
 written-from [] i k ws s c h f = absurd (omega arith)
 written-from (t ∷ ts) i zero ws s c h f = rw (complete t ws s f (parted-at (t ∷ ts) 0 c h), zero-add, add-zero)
 written-from (t ∷ ts) i (suc k) ws s c h f =
-    let p = both (parted t && leb (slots t) 6) (apartFromAll t ts && distinct ts) c in
+    let p = both (parted t && leb (slotCount t) 6) (apartFromAll t ts && distinct ts) c in
     let r = both (apartFromAll t ts) (distinct ts) (p .1) in
     let l : k < length ts = omega arith in
     let e : suc i + k ≡ i + suc k = omega arith in
@@ -146,6 +146,11 @@ found-hits table s c =
       some = λ k.
           omega (arith, exact k, fill-pos (getD (linesIn table) form []) (findIn (linesIn table) 0 s .values) (lines-pos table form k));
     }
+
+-- a form that was found stands at the front, with values that fit
+pub found-stands : (table s : List ℕ) → distinct (linesIn table) ≡ true → found table s .form < length (linesIn table)
+    → (s ≡ fill (formAt table (found table s .form)) (found table s .values) ++ drop (found table s .length) s) × (valuesFit (formAt table (found table s .form)) (found table s .values) ≡ true)
+found-stands table s c h = let hits = found-hits table s c in (hits .text h, hits .fit h)
 
 -- a form that was written is found again, whatever follows
 pub found-written : (table : List ℕ) (k : ℕ) (ws s : List ℕ) → distinct (linesIn table) ≡ true → k < length (linesIn table)

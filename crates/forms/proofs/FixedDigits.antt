@@ -9,7 +9,7 @@ use lib.ListN.{length, drop, length-append}
 use lib.Dec.{leb}
 use borrow.Author.Tests.{le-leb}
 use Rattle.sets.proofs.Booleans.{both, clash}
-use Rattle.forms.specs.Numbers.{fixedOf, startsWithDigits, valueFrom, readFixed, numberOf, nothing, isDigit}
+use Rattle.forms.specs.Numbers.{fixedOf, startsWithDigits, valueFrom, readFixed, valueAndLength, nothing, isDigit}
 use Rattle.forms.specs.declared.numbers.Number.{Number}
 use Rattle.forms.proofs.Digits.{digit-true}
 
@@ -86,14 +86,14 @@ digits-through (suc n) v m s =
     one : (m : ℕ) (s : List ℕ) (d : ℕ) → d < 10 → startsWithDigits (suc m) ((48 + d) ∷ s) ≡ startsWithDigits m s
     one m s d h = unfold startsWithDigits isDigit in rw (le-leb 48 (48 + d) (omega arith), le-leb (48 + d) 57 (omega arith))
 
-pub fixed-complete : (n v : ℕ) (s : List ℕ) → v < 10 ^ n → readFixed n (fixedOf n v ++ s) ≡ numberOf v n
+pub fixed-complete : (n v : ℕ) (s : List ℕ) → v < 10 ^ n → readFixed n (fixedOf n v ++ s) ≡ valueAndLength v n
 unfolding readFixed
 fixed-complete n v s h =
     let d = digits-through n v 0 s in
     let t = through n v 0 s h in
     rw (rw add-zero at d, rw add-zero at t) (last n v s)
   where
-    last : (n v : ℕ) (s : List ℕ) → cond (startsWithDigits 0 s) (numberOf (valueFrom 0 s v) n) nothing ≡ numberOf v n
+    last : (n v : ℕ) (s : List ℕ) → cond (startsWithDigits 0 s) (valueAndLength (valueFrom 0 s v) n) nothing ≡ valueAndLength v n
     last n v s = unfold startsWithDigits valueFrom in refl
 
 from : (n : ℕ) (s : List ℕ) → startsWithDigits n s ≡ true → s ≡ fixedOf n (valueFrom n s 0) ++ drop n s
@@ -105,8 +105,8 @@ pub fixed-sound : (n : ℕ) (s : List ℕ) → 0 < readFixed n s .length → s �
 unfolding readFixed
 fixed-sound n s h = go (startsWithDigits n s) refl h
   where
-    go : (b : Bool) → startsWithDigits n s ≡ b → 0 < cond b (numberOf (valueFrom n s 0) n) nothing .length
-        → s ≡ fixedOf n (cond b (numberOf (valueFrom n s 0) n) nothing .value) ++ drop (cond b (numberOf (valueFrom n s 0) n) nothing .length) s
+    go : (b : Bool) → startsWithDigits n s ≡ b → 0 < cond b (valueAndLength (valueFrom n s 0) n) nothing .length
+        → s ≡ fixedOf n (cond b (valueAndLength (valueFrom n s 0) n) nothing .value) ++ drop (cond b (valueAndLength (valueFrom n s 0) n) nothing .length) s
     go true e k = from n s e
     go false e k = absurd (omega arith)
 
@@ -114,7 +114,7 @@ pub fixed-fits : (n : ℕ) (s : List ℕ) → 0 < 10 ^ n → readFixed n s .valu
 unfolding readFixed
 fixed-fits n s h = go (startsWithDigits n s) refl
   where
-    go : (b : Bool) → startsWithDigits n s ≡ b → cond b (numberOf (valueFrom n s 0) n) nothing .value < 10 ^ n
+    go : (b : Bool) → startsWithDigits n s ≡ b → cond b (valueAndLength (valueFrom n s 0) n) nothing .value < 10 ^ n
     go true e = rw add-zero at (value-small n 0 0 s e (omega arith))
     go false e = h
 
@@ -128,6 +128,6 @@ pub fixed-short : (n : ℕ) (s : List ℕ) → readFixed n s .length ≤ length 
 unfolding readFixed
 fixed-short n s = go (startsWithDigits n s) refl
   where
-    go : (b : Bool) → startsWithDigits n s ≡ b → cond b (numberOf (valueFrom n s 0) n) nothing .length ≤ length s
+    go : (b : Bool) → startsWithDigits n s ≡ b → cond b (valueAndLength (valueFrom n s 0) n) nothing .length ≤ length s
     go true e = digits-length n s e
     go false e = omega arith

@@ -5,6 +5,8 @@ pub mod Marks
 pub mod Matching
 pub mod Finding
 pub mod Puts
+pub mod Room
 pub mod Turns
 pub mod Lines
 pub mod Signs
+pub mod Coordinates

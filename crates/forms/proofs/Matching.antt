@@ -9,10 +9,10 @@ use lib.Seq.{drop-drop, drop-append-seam}
 use lib.Dec.{ltb, leb, eqb}
 use borrow.Author.Tests.{lt-ltb, ne-eqb, ltb-true, eqb-true, eqb-false}
 use Rattle.sets.proofs.Booleans.{both, clash}
-use Rattle.forms.specs.Numbers.{readByte, isDigit, numberOf, nothing}
+use Rattle.forms.specs.Numbers.{readByte, isDigit, valueAndLength, nothing}
 use Rattle.forms.specs.Kinds.{syntaxOf, isSlotSyntax, isSlot}
 use Rattle.forms.specs.Forms.{itemText, readItem, textBy, readBy, fitsBy, head, tail, left, fill, Match, unmatched, matched, prepend, scan, valuesFit, valuesIn}
-use Rattle.forms.specs.Tables.{slots, goesOnPlain, parted, apart}
+use Rattle.forms.specs.Tables.{slotCount, goesOnPlain, parted, apart}
 use Rattle.forms.specs.declared.kinds.Syntax.{Syntax}
 use Rattle.forms.specs.declared.kinds.Syntax.the-variants as syntax
 use Rattle.forms.specs.declared.numbers.Number.{Number}
@@ -109,7 +109,7 @@ sound (c ∷ t) s =
 -- a match takes no more than the text, and as many values as the form has marks
 abbrev pub Within : List ℕ → List ℕ → Match → Type 0
 Within t s unmatched = Unit {0}
-Within t s (matched vs n) = (n ≤ length s) × (length vs ≡ slots t)
+Within t s (matched vs n) = (n ≤ length s) × (length vs ≡ slotCount t)
 
 within-prepend : (c : ℕ) (t s : List ℕ) (x b : Bool) (v n : ℕ) (m : Match) → isSlot c ≡ b → n ≤ length s → Within t (drop n s) m
     → Within (c ∷ t) s (cond x (prepend b v n m) unmatched)

@@ -8,7 +8,7 @@ use lib.ListN.{length, drop, getD, length-append, List·getD-append}
 use lib.Dec.{ltb, leb, eqb}
 use borrow.Author.Tests.{lt-ltb, le-ltb, eq-eqb, ne-eqb, ltb-true, ltb-false, eqb-true, eqb-false, not-true}
 use Rattle.sets.proofs.Booleans.{both, clash}
-use Rattle.forms.specs.Numbers.{digitsOf, signedOf, fixedOf, digitsFrom, readNumber, readSigned, readByte, readFixed, negated, numberOf, nothing, longer, isDigit}
+use Rattle.forms.specs.Numbers.{digitsOf, signedOf, fixedOf, digitsFrom, readNumber, readSigned, readByte, readFixed, negated, valueAndLength, nothing, longer, isDigit}
 use Rattle.forms.specs.Kinds.{isSlotSyntax}
 use Rattle.forms.specs.Forms.{textBy, readBy, fitsBy}
 use Rattle.forms.specs.declared.kinds.Syntax.{Syntax}
@@ -25,7 +25,7 @@ from-short [] a = omega arith
 from-short (c ∷ s) a = go (ltb a 1000000000 && isDigit c) (from-short s (a * 10 + (c - 48)))
   where
     go : (b : Bool) → digitsFrom s (a * 10 + (c - 48)) .length ≤ length s
-        → cond b (longer 1 (digitsFrom s (a * 10 + (c - 48)))) (numberOf a 0) .length ≤ suc (length s)
+        → cond b (longer 1 (digitsFrom s (a * 10 + (c - 48)))) (valueAndLength a 0) .length ≤ suc (length s)
     go true h = omega arith
     go false h = omega arith
 
@@ -35,7 +35,7 @@ number-short [] = omega arith
 number-short (c ∷ s) = go (eqb c 48) (isDigit c) (from-short s (c - 48))
   where
     go : (x y : Bool) → digitsFrom s (c - 48) .length ≤ length s
-        → cond x (numberOf 0 1) (cond y (longer 1 (digitsFrom s (c - 48))) nothing) .length ≤ suc (length s)
+        → cond x (valueAndLength 0 1) (cond y (longer 1 (digitsFrom s (c - 48))) nothing) .length ≤ suc (length s)
     go true y h = omega arith
     go false true h = omega arith
     go false false h = omega arith
@@ -46,8 +46,8 @@ unfolding readNumber
 number-none [] h = refl
 number-none (c ∷ s) h = go (eqb c 48) (isDigit c) h
   where
-    go : (x y : Bool) → cond x (numberOf 0 1) (cond y (longer 1 (digitsFrom s (c - 48))) nothing) .length ≡ 0
-        → cond x (numberOf 0 1) (cond y (longer 1 (digitsFrom s (c - 48))) nothing) .value ≡ 0
+    go : (x y : Bool) → cond x (valueAndLength 0 1) (cond y (longer 1 (digitsFrom s (c - 48))) nothing) .length ≡ 0
+        → cond x (valueAndLength 0 1) (cond y (longer 1 (digitsFrom s (c - 48))) nothing) .value ≡ 0
     go true y h = refl
     go false true h = absurd (omega arith)
     go false false h = refl
@@ -87,7 +87,7 @@ signed-short [] = omega arith
 signed-short (c ∷ s) = go (eqb c 45) (ltb 0 (readNumber s .value)) (number-short s) (number-short (c ∷ s))
   where
     go : (x y : Bool) → readNumber s .length ≤ length s → readNumber (c ∷ s) .length ≤ length (c ∷ s)
-        → cond x (cond y (numberOf (10000000000 + readNumber s .value) (1 + readNumber s .length)) nothing) (readNumber (c ∷ s)) .length ≤ suc (length s)
+        → cond x (cond y (valueAndLength (10000000000 + readNumber s .value) (1 + readNumber s .length)) nothing) (readNumber (c ∷ s)) .length ≤ suc (length s)
     go true true h k = omega arith
     go true false h k = omega arith
     go false y h k = k
@@ -101,8 +101,8 @@ signed-fits (c ∷ s) = go (eqb c 45) (ltb 0 (readNumber s .value)) refl
     small v h = rw (lt-ltb v 20000000000 (omega arith), ne-eqb v 10000000000 (λ q. omega arith))
 
     go : (x y : Bool) → ltb 0 (readNumber s .value) ≡ y
-        → (ltb (cond x (cond y (numberOf (10000000000 + readNumber s .value) (1 + readNumber s .length)) nothing) (readNumber (c ∷ s)) .value) 20000000000
-        && not (eqb (cond x (cond y (numberOf (10000000000 + readNumber s .value) (1 + readNumber s .length)) nothing) (readNumber (c ∷ s)) .value) 10000000000)) ≡ true
+        → (ltb (cond x (cond y (valueAndLength (10000000000 + readNumber s .value) (1 + readNumber s .length)) nothing) (readNumber (c ∷ s)) .value) 20000000000
+        && not (eqb (cond x (cond y (valueAndLength (10000000000 + readNumber s .value) (1 + readNumber s .length)) nothing) (readNumber (c ∷ s)) .value) 10000000000)) ≡ true
     go true true q =
         let k : 0 < readNumber s .value = ltb-true _ _ q in
         let l = number-small s in
@@ -121,7 +121,7 @@ by-short syntax.Literal c s = byte s
     byte [] = unfold readByte in omega arith
     byte (d ∷ s) = unfold readByte in go (eqb d c)
       where
-        go : (b : Bool) → cond b (numberOf 0 1) nothing .length ≤ suc (length s)
+        go : (b : Bool) → cond b (valueAndLength 0 1) nothing .length ≤ suc (length s)
         go true = omega arith
         go false = omega arith
 by-short syntax.Number c s = number-short s
@@ -151,7 +151,7 @@ signed-front [] = λ h. absurd (omega arith)
 signed-front (c ∷ s) = go (eqb c 45) (ltb 0 (readNumber s .value)) refl refl
   where
     go : (x y : Bool) → eqb c 45 ≡ x → ltb 0 (readNumber s .value) ≡ y
-        → Front (c ∷ s) (cond x (cond y (numberOf (10000000000 + readNumber s .value) (1 + readNumber s .length)) nothing) (readNumber (c ∷ s))) signedOf
+        → Front (c ∷ s) (cond x (cond y (valueAndLength (10000000000 + readNumber s .value) (1 + readNumber s .length)) nothing) (readNumber (c ∷ s))) signedOf
     go true true p q h =
         let k : 0 < readNumber s .value = ltb-true _ _ q in
         let n : 1 + readNumber s .length ≡ suc (readNumber s .length) = omega arith in
@@ -166,7 +166,7 @@ unfolding readByte
 byte-front c [] = λ h. absurd (omega arith)
 byte-front c (d ∷ s) = go (eqb d c) refl
   where
-    go : (x : Bool) → eqb d c ≡ x → Front (d ∷ s) (cond x (numberOf 0 1) nothing) (λ v. c ∷ [])
+    go : (x : Bool) → eqb d c ≡ x → Front (d ∷ s) (cond x (valueAndLength 0 1) nothing) (λ v. c ∷ [])
     go true p h = ap (λ (x : ℕ). x ∷ s) (eqb-true d c p)
     go false p h = absurd (omega arith)
 
@@ -202,16 +202,16 @@ no-minus v s =
     signed-plain (digitsOf v ++ s) (λ e. omega (arith, g, d))
 
 signed-complete : (v : ℕ) → v < 20000000000 → (v ≡ 10000000000 → ⊥) → (s : List ℕ) → digitAt s ≡ false
-    → readSigned (signedOf v ++ s) ≡ numberOf v (length (signedOf v))
+    → readSigned (signedOf v ++ s) ≡ valueAndLength v (length (signedOf v))
 unfolding readSigned
 signed-complete v h n s d = go (ltb 10000000000 v) refl
   where
-    go : (b : Bool) → ltb 10000000000 v ≡ b → readSigned (signedOf v ++ s) ≡ numberOf v (length (signedOf v))
+    go : (b : Bool) → ltb 10000000000 v ≡ b → readSigned (signedOf v ++ s) ≡ valueAndLength v (length (signedOf v))
     go true e =
         let l : 10000000000 < v = ltb-true _ _ e in
         let w : 10000000000 + (v - 10000000000) ≡ v = omega arith in
         rw (minus-text v l, number-complete (v - 10000000000) (omega arith) s d, lt-ltb 0 (v - 10000000000) (omega arith), w)
-        (ap (numberOf v) (omega arith))
+        (ap (valueAndLength v) (omega arith))
     go false e =
         let l : v ≤ 10000000000 = ltb-false _ _ e in
         let k : v < 10000000000 = omega arith in
@@ -222,14 +222,14 @@ pub record Got (x : Syntax) (c v : ℕ) (r : Number) : Type 0 where
   pub long : r .length ≡ length (textBy x c v)
   pub value : isSlotSyntax x ≡ true → r .value ≡ v
 
-got : (x : Syntax) (c v : ℕ) (r : Number) → r ≡ numberOf v (length (textBy x c v)) → Got x c v r
+got : (x : Syntax) (c v : ℕ) (r : Number) → r ≡ valueAndLength v (length (textBy x c v)) → Got x c v r
 got x c v r e = subst⁻¹ (Got x c v) e (record { long = refl; value = λ k. refl })
 
-byte-back : (c : ℕ) (s : List ℕ) → readByte c (c ∷ s) ≡ numberOf 0 1
+byte-back : (c : ℕ) (s : List ℕ) → readByte c (c ∷ s) ≡ valueAndLength 0 1
 unfolding readByte
 byte-back c s = rw (eq-eqb c c refl)
 
-fixed-got : (n v : ℕ) (s : List ℕ) → readFixed n (fixedOf n v ++ s) ≡ numberOf v n → readFixed n (fixedOf n v ++ s) ≡ numberOf v (length (fixedOf n v))
+fixed-got : (n v : ℕ) (s : List ℕ) → readFixed n (fixedOf n v ++ s) ≡ valueAndLength v n → readFixed n (fixedOf n v ++ s) ≡ valueAndLength v (length (fixedOf n v))
 fixed-got n v s e = rw (fixed-length n v) e
 
 pub by-back : (x : Syntax) (c v : ℕ) (s : List ℕ) → fitsBy x v ≡ true → (isSlotSyntax x ≡ true → digitAt s ≡ false)

@@ -11,9 +11,9 @@ use lib.Seq.{drop-cons, drop-drop, sets, take-all, take-append-seam}
 use lib.Dec.{ltb, leb, eqb}
 use borrow.Author.Tests.{lt-ltb, le-ltb, le-leb, eq-eqb, ne-eqb, ltb-true, ltb-false}
 use Rattle.sets.proofs.Booleans.{both, clash}
-use Rattle.forms.specs.Numbers.{readNumber, readSigned, readFixed, readByte, negated, digitsFrom, startsWithDigits, valueFrom, numberOf, nothing, longer, isDigit}
+use Rattle.forms.specs.Numbers.{readNumber, readSigned, readFixed, readByte, negated, digitsFrom, startsWithDigits, valueFrom, valueAndLength, nothing, longer, isDigit}
 use Rattle.forms.specs.Kinds.{isSlot, inRange}
-use Rattle.forms.specs.Forms.{itemText, readItem, head, tail, left, fill, allInRange, Match, unmatched, matched, prepend, scan, scanned, into, found, notFound, takenBy, advance}
+use Rattle.forms.specs.Forms.{itemText, readItem, head, tail, left, fill, allInRange, Match, unmatched, matched, prepend, scan, scanned, into, scannedAs, notFound, takenBy, advance}
 use Rattle.forms.specs.Writing.{lastPlace, Wrote}
 use Rattle.forms.specs.declared.numbers.Number.{Number}
 use Rattle.forms.specs.declared.scanning.Scanned.{Scanned}
@@ -27,11 +27,11 @@ rest s n = take-all (length s - n) (drop n s) (rw length-drop (omega arith))
 
 -- ---- the digits of a plain number
 
-pub ended : (s : List ℕ) (i a : ℕ) → length s ≤ i → longer i (digitsFrom (drop i s) a) ≡ numberOf a i
+pub ended : (s : List ℕ) (i a : ℕ) → length s ≤ i → longer i (digitsFrom (drop i s) a) ≡ valueAndLength a i
 unfolding digitsFrom
 ended s i a h = rw (drop-of-length-le s {i = i} h, add-zero)
 
-pub stopped : (s : List ℕ) (i a : ℕ) → i < length s → (ltb a 1000000000 && isDigit (getD s i 0)) ≡ false → longer i (digitsFrom (drop i s) a) ≡ numberOf a i
+pub stopped : (s : List ℕ) (i a : ℕ) → i < length s → (ltb a 1000000000 && isDigit (getD s i 0)) ≡ false → longer i (digitsFrom (drop i s) a) ≡ valueAndLength a i
 unfolding digitsFrom
 stopped s i a h m = rw (drop-cons s i 0 h, m, add-zero)
 
@@ -40,14 +40,14 @@ pub turned : (s : List ℕ) (i a : ℕ) → i < length s → (ltb a 1000000000 &
 unfolding digitsFrom
 turned s i a h m =
     rw (add-one, drop-cons s i 0 h, m)
-    (ap (numberOf ((digitsFrom (drop (suc i) s) (a * 10 + (getD s i 0 - 48))) .value)) (omega arith))
+    (ap (valueAndLength ((digitsFrom (drop (suc i) s) (a * 10 + (getD s i 0 - 48))) .value)) (omega arith))
 
 pub first-none : (s : List ℕ) → length s ≡ 0 → readNumber s ≡ nothing
 unfolding readNumber
 first-none [] h = refl
 first-none (c ∷ s) h = absurd (omega arith)
 
-pub first-zero : (s : List ℕ) → 0 < length s → getD s 0 0 ≡ 48 → readNumber s ≡ numberOf 0 1
+pub first-zero : (s : List ℕ) → 0 < length s → getD s 0 0 ≡ 48 → readNumber s ≡ valueAndLength 0 1
 unfolding readNumber
 first-zero [] h e = absurd (omega arith)
 first-zero (c ∷ s) h e = rw (eq-eqb c 48 e)
@@ -70,7 +70,7 @@ unfolding readByte
 byte-none c [] h = refl
 byte-none c (d ∷ s) h = absurd (omega arith)
 
-pub byte-same : (c : ℕ) (s : List ℕ) → 0 < length s → getD s 0 0 ≡ c → readByte c s ≡ numberOf 0 1
+pub byte-same : (c : ℕ) (s : List ℕ) → 0 < length s → getD s 0 0 ≡ c → readByte c s ≡ valueAndLength 0 1
 unfolding readByte
 byte-same c [] h e = absurd (omega arith)
 byte-same c (d ∷ s) h e = rw (eq-eqb d c e)
@@ -92,7 +92,7 @@ unfolding readSigned
 signed-minus [] h e = absurd (omega arith)
 signed-minus (c ∷ s) h e = rw (eq-eqb c 45 e)
 
-pub negated-some : (r : Number) → 0 < r .value → negated r ≡ numberOf (10000000000 + r .value) (1 + r .length)
+pub negated-some : (r : Number) → 0 < r .value → negated r ≡ valueAndLength (10000000000 + r .value) (1 + r .length)
 negated-some r h = rw (lt-ltb 0 (r .value) h)
 
 pub negated-none : (r : Number) → r .value ≤ 0 → negated r ≡ nothing
@@ -117,14 +117,14 @@ module _ {n : ℕ} {s : List ℕ} {value i : ℕ} (v : Fixed n s value i) (h : i
   unfolding readFixed
   fixed-short l = rw (v .digits, left-over, drop-of-length-le s {i = i} l) (none (n - (i + 1)))
     where
-      none : (m : ℕ) → cond (startsWithDigits (suc m) []) (numberOf (valueFrom n s 0) n) nothing ≡ nothing
+      none : (m : ℕ) → cond (startsWithDigits (suc m) []) (valueAndLength (valueFrom n s 0) n) nothing ≡ nothing
       none m = unfold startsWithDigits in refl
 
   pub fixed-other : i < length s → isDigit (getD s i 0) ≡ false → readFixed n s ≡ nothing
   unfolding readFixed
   fixed-other l e = rw (v .digits, left-over, drop-cons s i 0 l) (none (n - (i + 1)))
     where
-      none : (m : ℕ) → cond (startsWithDigits (suc m) (getD s i 0 ∷ drop (suc i) s)) (numberOf (valueFrom n s 0) n) nothing ≡ nothing
+      none : (m : ℕ) → cond (startsWithDigits (suc m) (getD s i 0 ∷ drop (suc i) s)) (valueAndLength (valueFrom n s 0) n) nothing ≡ nothing
       none m = unfold startsWithDigits in rw e
 
   pub fixed-turn : i < length s → isDigit (getD s i 0) ≡ true → Fixed n s (value * 10 + (getD s i 0 - 48)) (i + 1)
@@ -143,13 +143,13 @@ module _ {n : ℕ} {s : List ℕ} {value i : ℕ} (v : Fixed n s value i) (h : i
       valued : (m : ℕ) → valueFrom (suc m) (getD s i 0 ∷ drop (suc i) s) value ≡ valueFrom m (drop (suc i) s) (value * 10 + (getD s i 0 - 48))
       valued m = unfold valueFrom in refl
 
-pub fixed-end : {n : ℕ} {s : List ℕ} {value i : ℕ} → Fixed n s value i → n ≤ i → readFixed n s ≡ numberOf value n
+pub fixed-end : {n : ℕ} {s : List ℕ} {value i : ℕ} → Fixed n s value i → n ≤ i → readFixed n s ≡ valueAndLength value n
 unfolding readFixed
 fixed-end {n} {s} {value} {i} v h =
     let z : n - i ≡ 0 = omega arith in
     rw (v .digits, v .same, z) (last (drop i s))
   where
-    last : (l : List ℕ) → cond (startsWithDigits 0 l) (numberOf (valueFrom 0 l value) n) nothing ≡ numberOf value n
+    last : (l : List ℕ) → cond (startsWithDigits 0 l) (valueAndLength (valueFrom 0 l value) n) nothing ≡ valueAndLength value n
     last l = unfold startsWithDigits valueFrom in refl
 
 -- ten to the power of a count of digits stays small
@@ -175,7 +175,7 @@ pub record Scan (t s : List ℕ) (a : Scanned) (i : ℕ) : Type 0 where
   pub good : a .matches ≡ true
   pub same : scanned (scan t s) ≡ into a (scan (drop i t) (drop (a .length) s))
 
-pub scan-start : (t s : List ℕ) → Scan t s (found (replicate 6 0) 0 0) 0
+pub scan-start : (t s : List ℕ) → Scan t s (scannedAs (replicate 6 0) 0 0) 0
 unfolding scanned
 scan-start t s = record { in-form = omega arith; six = refl; few = omega arith; in-text = omega arith; good = refl; same = refl }
 

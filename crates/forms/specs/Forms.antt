@@ -1,11 +1,11 @@
 -- A form: how it reads with its numbers, and what reading it at the front of a text finds. Assumes nothing.
-use Prim.Native.Nat.{ℕ, zero, suc, _+_}
+use Prim.Native.Nat.{ℕ, _+_}
 use mathlib.Core.Bool.{Bool, true, false, cond, _&&_, not}
 use mathlib.Core.List.{List, [], _∷_, _++_}
 use lib.ListN.{length, drop, set, replicate}
 use lib.Seq.{sets}
 use lib.Dec.{ltb, eqb}
-use Rattle.forms.specs.Numbers.{digitsOf, signedOf, fixedOf, readNumber, readSigned, readFixed, readByte, isDigit}
+use Rattle.forms.specs.Numbers.{digitsOf, signedOf, fixedOf, readNumber, readSigned, readFixed, readByte}
 use Rattle.forms.specs.Kinds.{syntaxOf, isSlot, inRange}
 use Rattle.forms.specs.declared.kinds.Syntax.{Syntax}
 use Rattle.forms.specs.declared.kinds.Syntax.the-variants as syntax
@@ -97,8 +97,8 @@ scan (c ∷ t) s =
 
 -- ---- as the code holds it: six values, those that a form does not have being 0
 
-abbrev pub found : List ℕ → ℕ → ℕ → Scanned
-found values count n = record { matches = true; values = values; count = count; length = n }
+abbrev pub scannedAs : List ℕ → ℕ → ℕ → Scanned
+scannedAs values count n = record { matches = true; values = values; count = count; length = n }
 
 abbrev pub notFound : Scanned
 notFound = record { matches = false; values = replicate 6 0; count = 0; length = 0 }
@@ -109,12 +109,12 @@ advance false k = k
 
 -- one item more
 abbrev pub takenBy : Scanned → Bool → Number → Scanned
-takenBy a isSlot r = found (cond isSlot (set (a .values) (a .count) (r .value)) (a .values)) (advance isSlot (a .count)) (a .length + r .length)
+takenBy a isSlot r = scannedAs (cond isSlot (set (a .values) (a .count) (r .value)) (a .values)) (advance isSlot (a .count)) (a .length + r .length)
 
 -- a match after what `a` has
 abbrev pub into : Scanned → Match → Scanned
 into a unmatched = notFound
-into a (matched vs m) = found (sets (a .values) (a .count) vs) (a .count + length vs) (a .length + m)
+into a (matched vs m) = scannedAs (sets (a .values) (a .count) vs) (a .count + length vs) (a .length + m)
 
 unfoldable pub scanned : Match → Scanned
-scanned m = into (found (replicate 6 0) 0 0) m
+scanned m = into (scannedAs (replicate 6 0) 0 0) m

@@ -5,6 +5,7 @@ use mathlib.Core.Bool.{Bool, true, false, cond, _&&_}
 use mathlib.Core.List.{List, [], _∷_, _++_}
 use lib.Dec.{ltb, leb, eqb}
 use lib.IntN.{ℤ, pos, negsuc}
+use Rattle.places.specs.Places.{onGrid}
 use Rattle.forms.specs.declared.numbers.Number.{Number}
 
 -- ---- as text
@@ -23,6 +24,11 @@ digitsOf v = digitsWithin v (ltb v 10) v
 unfoldable pub signedOf : ℕ → List ℕ
 signedOf v = cond (ltb 10000000000 v) (45 ∷ digitsOf (v - 10000000000)) (digitsOf v)
 
+-- the same of the number itself: "a minus .. never before 0"
+abbrev pub integerText : ℤ → List ℕ
+integerText (pos n) = digitsOf n
+integerText (negsuc n) = 45 ∷ digitsOf (suc n)
+
 -- "yyyymmdd and hhmm": the last n digits of v
 unfoldable pub fixedOf : ℕ → ℕ → List ℕ
 fixedOf zero v = []
@@ -30,11 +36,12 @@ fixedOf (suc n) v = fixedOf n (v / 10) ++ ((48 + v % 10) ∷ [])
 
 -- ---- read at the front of a text; 0 bytes where nothing is found
 
-abbrev pub numberOf : ℕ → ℕ → Number
-numberOf v n = record { value = v; length = n }
+-- the value v, in n bytes
+abbrev pub valueAndLength : ℕ → ℕ → Number
+valueAndLength v n = record { value = v; length = n }
 
 abbrev pub nothing : Number
-nothing = numberOf 0 0
+nothing = valueAndLength 0 0
 
 unfoldable pub isDigit : ℕ → Bool
 isDigit c = leb 48 c && leb c 57
@@ -44,21 +51,21 @@ digitValue c = c - 48
 
 -- a number that is n bytes longer
 abbrev pub longer : ℕ → Number → Number
-longer n r = numberOf (r .value) (n + r .length)
+longer n r = valueAndLength (r .value) (n + r .length)
 
 -- the value a continued by the digits at the front of s, "at most 10 digits"; the length counts those digits
 unfoldable pub digitsFrom : List ℕ → ℕ → Number
-digitsFrom [] a = numberOf a 0
-digitsFrom (c ∷ s) a = cond (ltb a 1000000000 && isDigit c) (longer 1 (digitsFrom s (a * 10 + (c - 48)))) (numberOf a 0)
+digitsFrom [] a = valueAndLength a 0
+digitsFrom (c ∷ s) a = cond (ltb a 1000000000 && isDigit c) (longer 1 (digitsFrom s (a * 10 + (c - 48)))) (valueAndLength a 0)
 
 -- a first 0 is the whole number
 unfoldable pub readNumber : List ℕ → Number
 readNumber [] = nothing
-readNumber (c ∷ s) = cond (eqb c 48) (numberOf 0 1) (cond (isDigit c) (longer 1 (digitsFrom s (c - 48))) nothing)
+readNumber (c ∷ s) = cond (eqb c 48) (valueAndLength 0 1) (cond (isDigit c) (longer 1 (digitsFrom s (c - 48))) nothing)
 
 -- a minus "never before 0"
 abbrev pub negated : Number → Number
-negated r = cond (ltb 0 (r .value)) (numberOf (10000000000 + r .value) (1 + r .length)) nothing
+negated r = cond (ltb 0 (r .value)) (valueAndLength (10000000000 + r .value) (1 + r .length)) nothing
 
 unfoldable pub readSigned : List ℕ → Number
 readSigned [] = nothing
@@ -77,11 +84,11 @@ valueFrom (suc n) [] a = a
 valueFrom (suc n) (c ∷ s) a = valueFrom n s (a * 10 + (c - 48))
 
 unfoldable pub readFixed : ℕ → List ℕ → Number
-readFixed n s = cond (startsWithDigits n s) (numberOf (valueFrom n s 0) n) nothing
+readFixed n s = cond (startsWithDigits n s) (valueAndLength (valueFrom n s 0) n) nothing
 
 unfoldable pub readByte : ℕ → List ℕ → Number
 readByte c [] = nothing
-readByte c (d ∷ s) = cond (eqb d c) (numberOf 0 1) nothing
+readByte c (d ∷ s) = cond (eqb d c) (valueAndLength 0 1) nothing
 
 -- ---- the number below 0 that a value holds, and how it is held
 
@@ -96,3 +103,7 @@ signedValue v = cond (ltb v 10000000000) (pos v) (cond (ltb v 20000000000) (minu
 unfoldable pub signedCode : ℤ → ℕ
 signedCode (pos n) = n
 signedCode (negsuc n) = 10000000001 + n
+
+-- a value as a coordinate; off the grid there is none, and 0 stands for it
+unfoldable pub coordinateOf : ℕ → ℤ
+coordinateOf v = cond (onGrid (signedValue v)) (signedValue v) (pos 0)

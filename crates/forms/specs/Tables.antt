@@ -3,7 +3,7 @@ use Prim.Native.Nat.{ℕ, zero, suc, _+_}
 use Prim.Native.Char.{code}
 use Prim.Native.String.{String, len, charAt}
 use mathlib.Core.Bool.{Bool, true, false, cond, _&&_, not}
-use mathlib.Core.List.{List, [], _∷_}
+use mathlib.Core.List.{List, [], _∷_, _++_}
 use lib.ListN.{length, drop, getD, replicate}
 use lib.Dec.{eqb, leb}
 use Rattle.forms.specs.Numbers.{isDigit}
@@ -21,6 +21,11 @@ bytesFrom (suc n) i s = code (charAt s i) ∷ bytesFrom n (suc i) s
 -- the bytes of a text
 abbrev pub bytes : String → List ℕ
 bytes s = bytesFrom (len s) 0 s
+
+-- texts one after the other
+abbrev pub joined : List (List ℕ) → List ℕ
+joined [] = []
+joined (x ∷ xs) = x ++ joined xs
 
 abbrev pub onFirst : ℕ → List (List ℕ) → List (List ℕ)
 onFirst c [] = (c ∷ []) ∷ []
@@ -62,9 +67,9 @@ found table s = findIn (linesIn table) 0 s
 -- ---- a table whose forms can be told from their texts, as a computed test
 
 -- how many numbers a form has
-abbrev pub slots : List ℕ → ℕ
-slots [] = 0
-slots (c ∷ t) = cond (isSlot c) (suc (slots t)) (slots t)
+abbrev pub slotCount : List ℕ → ℕ
+slotCount [] = 0
+slotCount (c ∷ t) = cond (isSlot c) (suc (slotCount t)) (slotCount t)
 
 -- a form goes on with a byte that is neither a digit nor a number
 abbrev pub goesOnPlain : List ℕ → Bool
@@ -89,4 +94,4 @@ apartFromAll t (u ∷ us) = apart t u && apartFromAll t us
 -- numbers are parted, there are at most six of them, and no two forms have a text in common
 abbrev pub distinct : List (List ℕ) → Bool
 distinct [] = true
-distinct (t ∷ ts) = (parted t && leb (slots t) 6) && (apartFromAll t ts && distinct ts)
+distinct (t ∷ ts) = (parted t && leb (slotCount t) 6) && (apartFromAll t ts && distinct ts)

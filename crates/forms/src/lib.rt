@@ -9,6 +9,7 @@ mod writing;
 pub use kinds::Kind;
 pub use kinds::Syntax;
 pub use numbers::Number;
+pub use numbers::coordinate;
 pub use numbers::signed_code;
 pub use numbers::signed_value;
 pub use tables::Found;

@@ -1,7 +1,7 @@
 // Numbers as texts write them: plain, with a minus, or with as many digits as a date or a time of day has.
 ghost use mathlib.Core.Path.{_≡_};
 ghost use Prim.Native.Nat.{_≤_};
-ghost use Rattle.forms.specs.Numbers.{readNumber, readSigned, readFixed, readByte, isDigit, digitValue, signedValue, signedCode};
+ghost use Rattle.forms.specs.Numbers.{readNumber, readSigned, readFixed, readByte, isDigit, digitValue, signedValue, signedCode, coordinateOf};
 
 // What stands at the front of a text: its value and how many bytes it takes; 0 bytes where it does not stand there.
 pub struct Number {
@@ -115,6 +115,17 @@ pub fn signed_value(value: u64) -> i64
         return 0 - ((value - Number::MINUS) as i64);
     }
     0
+}
+
+// A value as a coordinate. Off the grid there is none, and 0 stands for it.
+pub fn coordinate(value: u64) -> i32
+    ensures { λ r. ⌜ r ≡ coordinateOf value ⌝ }
+{
+    let number = signed_value(value);
+    if !places::on_grid(number) {
+        return 0;
+    }
+    number as i32
 }
 
 // How a number is held.

@@ -2,7 +2,7 @@
 -- Assumes nothing.
 use mathlib.Core.Path.{_≡_, refl, sym, ap, _∙_, subst}
 use mathlib.Core.Bool.{true}
-use mathlib.Core.Logic.{_↔_, _⊎_, ⊎-elim}
+use mathlib.Core.Logic.{_↔_, _⊎_, inl, inr, ⊎-elim}
 use mathlib.Core.List.{List, [], _++_, append-nil}
 use Prim.Native.Nat.{ℕ, suc, _+_, _-_, _≤_, _<_}
 use native.Mathlib.Omega.{arith}
@@ -13,19 +13,15 @@ use Rattle.sets.proofs.Booleans.{both}
 use Rattle.rules.specs.Acceptance.{ruleAccepted, every, rulesOf, listAccepted}
 use Rattle.rules.specs.declared.lists.RuleList.{RuleList}
 use Rattle.rule_text.specs.Lines.{listText}
-use Rattle.rule_text.specs.Reading.{readLines, listOf, SameRules, prefixOf, loadedOf}
+use Rattle.rule_text.specs.Reading.{readLines, listOf, SameRules, prefixOf, loadedOf, readRules}
 use Rattle.rule_text.specs.Writing.{textOf}
 use Rattle.rule_text.specs.Causes.{Cause, FirstBad}
 use Rattle.rule_text.specs.declared.reading.LoadedRules.{LoadedRules}
 use Rattle.rule_text.proofs.Slots.{rules-of-list, list-accepted, slots-length, list-few, same-rules}
 use Rattle.rule_text.proofs.Loaded.{loaded-whole, loaded-bad, zero-or-some, loaded-zero, loaded-some}
-use Rattle.rule_text.proofs.Lists.{cause-some, reads-lines, reads-whole, reads-until}
+use Rattle.rule_text.proofs.Lists.{cause-number, cause-some, reads-lines, reads-whole, reads-until}
 
 -- ---- what is loaded
-
--- what reading a text returns
-abbrev pub loaded : List ℕ → LoadedRules
-loaded text = loadedOf (readLines text)
 
 few-rules : (text : List ℕ) → length (readLines text .rules) ≤ 128
 few-rules text = omega (arith, reads-lines text .few)
@@ -41,21 +37,21 @@ whole-text text none =
 -- ---- there and back
 
 -- a text that is accepted is the text of the list that was read, byte for byte
-pub write-back : (text : List ℕ) (list : RuleList) → loaded text ≡ record { number = 0; line = 0; list = list } → textOf list ≡ text
+pub write-back : (text : List ℕ) (list : RuleList) → readRules text ≡ record { number = 0; line = 0; list = list } → textOf list ≡ text
 write-back text list e =
     let none = loaded-zero (readLines text) (ap (λ (l : LoadedRules). l .number) e) in
     let same = ap (λ (l : LoadedRules). l .list) (sym e ∙ loaded-whole (readLines text) none) in
     rw (same, rules-of-list (readLines text .rules) (few-rules text)) (sym (whole-text text none))
 
 -- an accepted list, written and read, is the list of its rules
-pub read-back : (list : RuleList) → listAccepted list ≡ true → loaded (textOf list) ≡ record { number = 0; line = 0; list = listOf (rulesOf list) }
+pub read-back : (list : RuleList) → listAccepted list ≡ true → readRules (textOf list) ≡ record { number = 0; line = 0; list = listOf (rulesOf list) }
 unfolding listAccepted
 read-back list accepted =
     let rules-accepted = both (leb (list .length) 128) (every ruleAccepted (rulesOf list)) accepted .1 in
     rw (reads-whole (rulesOf list) (list-few list accepted) rules-accepted) (loaded-whole (record { rules = rulesOf list; length = length (textOf list); number = 0 }) refl)
 
 -- its length, the rules below it, and past it the filler
-pub read-back-same : (list : RuleList) → length (list .slots) ≡ 128 → listAccepted list ≡ true → SameRules list (loaded (textOf list) .list)
+pub read-back-same : (list : RuleList) → length (list .slots) ≡ 128 → listAccepted list ≡ true → SameRules list (readRules (textOf list) .list)
 unfolding listAccepted
 read-back-same list slots accepted =
     let most = leb-true (list .length) 128 (both (leb (list .length) 128) (every ruleAccepted (rulesOf list)) accepted .0) in
@@ -64,7 +60,7 @@ read-back-same list slots accepted =
 -- ---- what is accepted
 
 -- reading never gives a list that 40 refuses
-pub read-accepted : (text : List ℕ) → listAccepted (loaded text .list) ≡ true
+pub read-accepted : (text : List ℕ) → listAccepted (readRules text .list) ≡ true
 read-accepted text =
     ⊎-elim
     (λ none. rw (loaded-whole (readLines text) none) (list-accepted (readLines text .rules) (few-rules text) (reads-lines text .accepted)))
@@ -77,10 +73,10 @@ prefix-accepted text = list-accepted (readLines text .rules) (few-rules text) (r
 
 -- a text is accepted exactly where it is the text of a list that 40 does not refuse
 pub accepted-as-text : (text : List ℕ)
-    → (loaded text .number ≡ 0) ↔ ((list : RuleList) × (length (list .slots) ≡ 128) × (listAccepted list ≡ true) × (text ≡ textOf list))
-accepted-as-text text = (as-text, λ of-list. ap (λ (l : LoadedRules). l .number) (ap loaded (of-list .3) ∙ read-back (of-list .0) (of-list .2)))
+    → (readRules text .number ≡ 0) ↔ ((list : RuleList) × (length (list .slots) ≡ 128) × (listAccepted list ≡ true) × (text ≡ textOf list))
+accepted-as-text text = (as-text, λ of-list. ap (λ (l : LoadedRules). l .number) (ap readRules (of-list .3) ∙ read-back (of-list .0) (of-list .2)))
   where
-    as-text : loaded text .number ≡ 0 → (list : RuleList) × (length (list .slots) ≡ 128) × (listAccepted list ≡ true) × (text ≡ textOf list)
+    as-text : readRules text .number ≡ 0 → (list : RuleList) × (length (list .slots) ≡ 128) × (listAccepted list ≡ true) × (text ≡ textOf list)
     as-text none =
         let rules = readLines text .rules in (
           listOf rules,
@@ -89,13 +85,28 @@ accepted-as-text text = (as-text, λ of-list. ap (λ (l : LoadedRules). l .numbe
           whole-text text (loaded-zero (readLines text) none) ∙ ap (listText 1) (sym (rules-of-list rules (few-rules text))),
         )
 
+-- ---- which numbers are given
+
+-- no number but 10 to 14 is ever given
+pub read-number : (text : List ℕ) → (readRules text .number ≡ 0) ⊎ ((10 ≤ readRules text .number) × (readRules text .number ≤ 14))
+read-number text =
+    ⊎-elim
+    (λ none. inl (ap (λ (l : LoadedRules). l .number) (loaded-whole (readLines text) none)))
+    (λ some. inr (rw (loaded-bad (readLines text) some) (by-stop (reads-lines text .stops) some)))
+    (zero-or-some (readLines text .number))
+  where
+    by-stop : {rest : List ℕ} {n : ℕ} → ((readLines text .number ≡ 0) × (rest ≡ [])) ⊎ ((0 < length rest) × Cause n rest (readLines text .number)) → 0 < readLines text .number
+        → (10 ≤ readLines text .number) × (readLines text .number ≤ 14)
+    by-stop (inl stop) some = absurd (omega (arith, stop .0, some))
+    by-stop (inr stop) some = cause-number (stop .1)
+
 -- ---- the first bad line
 
 -- a number and a line are answered exactly where they are those of the first bad line
-pub first-bad : (text : List ℕ) (number n : ℕ) → 0 < number → ((loaded text .number ≡ number) × (loaded text .line ≡ n)) ↔ FirstBad text number n
+pub first-bad : (text : List ℕ) (number n : ℕ) → 0 < number → ((readRules text .number ≡ number) × (readRules text .line ≡ n)) ↔ FirstBad text number n
 first-bad text number n some = (is-first, answered)
   where
-    is-first : (loaded text .number ≡ number) × (loaded text .line ≡ n) → FirstBad text number n
+    is-first : (readRules text .number ≡ number) × (readRules text .line ≡ n) → FirstBad text number n
     is-first answer =
         let bad : 0 < readLines text .number = loaded-some (readLines text) (omega (arith, answer .0)) in
         let same = loaded-bad (readLines text) bad in
@@ -115,9 +126,9 @@ first-bad text number n some = (is-first, answered)
         })
         (reads-lines text .stops)
 
-    answered : FirstBad text number n → (loaded text .number ≡ number) × (loaded text .line ≡ n)
+    answered : FirstBad text number n → (readRules text .number ≡ number) × (readRules text .line ≡ n)
     answered bad =
         let lines = reads-until (bad .rules) (bad .few) (bad .accepted) (bad .rest) number (bad .some) (rw (bad .before) at (bad .cause)) in
-        let same : loaded text ≡ record { number = number; line = suc (length (bad .rules)); list = listOf [] } =
-        ap loaded (bad .reads) ∙ ap loadedOf lines ∙ loaded-bad (record { rules = bad .rules; length = length (listText 1 (bad .rules)); number = number }) some in
+        let same : readRules text ≡ record { number = number; line = suc (length (bad .rules)); list = listOf [] } =
+        ap readRules (bad .reads) ∙ ap loadedOf lines ∙ loaded-bad (record { rules = bad .rules; length = length (listText 1 (bad .rules)); number = number }) some in
         (ap (λ (l : LoadedRules). l .number) same, ap (λ (l : LoadedRules). l .line) same ∙ sym (bad .before))

@@ -1,6 +1,6 @@
 -- A line is refused with a number exactly where it has that number's cause, and is good exactly where it is an accepted rule's text.
 -- Assumes nothing.
-use mathlib.Core.Path.{_≡_, refl, sym, _∙_, subst}
+use mathlib.Core.Path.{_≡_, refl, sym, ap, _∙_, subst}
 use mathlib.Core.Bool.{Bool, true, false, not, cond}
 use mathlib.Core.Logic.{_↔_}
 use mathlib.Core.List.{List}
@@ -14,16 +14,16 @@ use Rattle.forms.specs.Tables.{linesIn, formAt, found}
 use Rattle.forms.specs.declared.tables.Found.{Found}
 use Rattle.rules.specs.Acceptance.{ruleDistinct, ruleSound}
 use Rattle.rules.specs.declared.families.Rule.{Rule}
-use Rattle.rule_text.specs.Lines.{ruleForms, formCount, lineOf, ruleText, ruleOf}
+use Rattle.rule_text.specs.Lines.{ruleForms, formCount, lineOf, ruleText, ruleOfForm}
 use Rattle.rule_text.specs.Reading.{ruleRead, lineAfter, readLine}
 use Rattle.rule_text.specs.Causes.{Stands, RuleStands, Cause, no-form, out-of-range, not-next, same-twice, unsound, GoodLine}
-use Rattle.rule_text.specs.declared.reading.Entry.{Entry}
+use Rattle.rule_text.specs.declared.reading.Parsed.{Parsed}
 use Rattle.rule_text.specs.declared.reading.LineRead.{LineRead}
 use Rattle.rule_text.specs.declared.reading.LineRead.the-variants.{Good, Bad}
-use Rattle.forms.proofs.Finding.{Hits, found-hits, found-none, found-written}
-use Rattle.rule_text.proofs.Marks.{values-by-marks, padded-in-range}
+use Rattle.sets.proofs.Booleans.{clash}
+use Rattle.forms.proofs.Finding.{Hits, found-hits, found-none}
 use Rattle.rule_text.proofs.Values.{table-length}
-use Rattle.rule_text.proofs.Inverse.{table-distinct, few-marks, number-bounds, text-same, made-in-range, form-of-rule, number-of-rule, rule-line-in-range, rule-same, found-rule}
+use Rattle.rule_text.proofs.Inverse.{table-distinct, number-bounds, text-same, made-in-range, form-of-rule, number-of-rule, rule-line-in-range, rule-same, found-rule}
 
 -- ---- what was read has its cause
 
@@ -43,7 +43,7 @@ module _ {text : List ℕ} {f : Found} (hits : Hits ruleForms text f) where
   line-at h = record { form = h; fits = hits .fit (in-lines h); rest = drop (f .length) text; reads = hits .text (in-lines h) }
 
   module _ (h : f .form < formCount) (in-range : allInRange (formAt ruleForms (f .form)) (f .values) ≡ true) where
-    rule-at : RuleStands text (getD (f .values) 0 0) (ruleOf (f .form) (f .values))
+    rule-at : RuleStands text (getD (f .values) 0 0) (ruleOfForm (f .form) (f .values))
     rule-at =
         let bounds = number-bounds (f .form) (f .values) h (hits .six) in-range in
         record {
@@ -54,23 +54,24 @@ module _ {text : List ℕ} {f : Found} (hits : Hits ruleForms text f) where
           reads = rw (text-same (f .form) (f .values) h (hits .six) in-range) (hits .text (in-lines h));
         }
 
-    length-at : f .length ≡ length (ruleText (getD (f .values) 0 0) (ruleOf (f .form) (f .values)))
+    length-at : f .length ≡ length (ruleText (getD (f .values) 0 0) (ruleOfForm (f .form) (f .values)))
     length-at = rw (text-same (f .form) (f .values) h (hits .six) in-range) (hits .exact (in-lines h))
 
-module _ (n : ℕ) {text : List ℕ} {f : Found} (hits : Hits ruleForms text f) (none : f .form ≡ formCount → (k : ℕ) (values : List ℕ) → Stands text k values → ⊥) where
+module _ (n : ℕ) {text : List ℕ} {f : Found} (hits : Hits ruleForms text f) (none : f .form ≡ formCount → (k : ℕ) (values : List ℕ) → Stands text k values → ⊥)
+    (outside : allInRange (formAt ruleForms (f .form)) (f .values) ≡ false → (m : ℕ) (rule : Rule) → RuleStands text m rule → ⊥) where
   by-tests : (no : Bool) → eqb (f .form) formCount ≡ no → (ranged : Bool) → allInRange (formAt ruleForms (f .form)) (f .values) ≡ ranged
-      → (next : Bool) → eqb (getD (f .values) 0 0) n ≡ next → (distinct : Bool) → ruleDistinct (ruleOf (f .form) (f .values)) ≡ distinct
-      → (sound : Bool) → ruleSound (ruleOf (f .form) (f .values)) ≡ sound
+      → (next : Bool) → eqb (getD (f .values) 0 0) n ≡ next → (distinct : Bool) → ruleDistinct (ruleOfForm (f .form) (f .values)) ≡ distinct
+      → (sound : Bool) → ruleSound (ruleOfForm (f .form) (f .values)) ≡ sound
       → Says n text (cond no (Bad 10) (cond (not ranged) (Bad 11) (cond (not next) (Bad 12) (cond (not distinct) (Bad 13) (cond (not sound) (Bad 14)
-      (Good (record { rule = ruleOf (f .form) (f .values); length = f .length })))))))
+      (Good (record { rule = ruleOfForm (f .form) (f .values); length = f .length })))))))
   by-tests true a ranged b next c distinct d sound e = no-form (none (eqb-true (f .form) formCount a))
-  by-tests false a false b next c distinct d sound e = out-of-range (f .form) (f .values) (line-at hits (in-table hits (eqb-false _ _ a))) b
+  by-tests false a false b next c distinct d sound e = out-of-range (f .form) (f .values) (line-at hits (in-table hits (eqb-false _ _ a))) (outside b)
   by-tests false a true b false c distinct d sound e =
-      not-next (getD (f .values) 0 0) (ruleOf (f .form) (f .values)) (rule-at hits (in-table hits (eqb-false _ _ a)) b) (eqb-false (getD (f .values) 0 0) n c)
+      not-next (getD (f .values) 0 0) (ruleOfForm (f .form) (f .values)) (rule-at hits (in-table hits (eqb-false _ _ a)) b) (eqb-false (getD (f .values) 0 0) n c)
   by-tests false a true b true c false d sound e =
-      same-twice (ruleOf (f .form) (f .values)) (rw (eqb-true (getD (f .values) 0 0) n c) at (rule-at hits (in-table hits (eqb-false _ _ a)) b)) d
+      same-twice (ruleOfForm (f .form) (f .values)) (rw (eqb-true (getD (f .values) 0 0) n c) at (rule-at hits (in-table hits (eqb-false _ _ a)) b)) d
   by-tests false a true b true c true d false e =
-      unsound (ruleOf (f .form) (f .values)) (rw (eqb-true (getD (f .values) 0 0) n c) at (rule-at hits (in-table hits (eqb-false _ _ a)) b)) d e
+      unsound (ruleOfForm (f .form) (f .values)) (rw (eqb-true (getD (f .values) 0 0) n c) at (rule-at hits (in-table hits (eqb-false _ _ a)) b)) d e
   by-tests false a true b true c true d true e =
       let h = in-table hits (eqb-false _ _ a) in
       let next = eqb-true (getD (f .values) 0 0) n c in
@@ -80,13 +81,20 @@ module _ (n : ℕ) {text : List ℕ} {f : Found} (hits : Hits ruleForms text f) 
   unfolding lineAfter ruleRead
   says =
       by-tests (eqb (f .form) formCount) refl (allInRange (formAt ruleForms (f .form)) (f .values)) refl (eqb (getD (f .values) 0 0) n) refl
-      (ruleDistinct (ruleOf (f .form) (f .values))) refl (ruleSound (ruleOf (f .form) (f .values))) refl
+      (ruleDistinct (ruleOfForm (f .form) (f .values))) refl (ruleSound (ruleOfForm (f .form) (f .values))) refl
+
+-- where a rule in range stands, its numbers are found in their ranges
+rule-found : (text : List ℕ) (m : ℕ) (rule : Rule) → RuleStands text m rule
+    → allInRange (formAt ruleForms (found ruleForms text .form)) (found ruleForms text .values) ≡ true
+rule-found text m rule st =
+    rw (st .reads, found-rule m rule (st .first) (st .last) (st .in-range) (st .rest)) (rule-line-in-range m rule (st .first) (st .last) (st .in-range))
 
 pub line-says : (n : ℕ) (text : List ℕ) → Says n text (readLine n text)
 unfolding readLine
 line-says n text =
     says n (found-hits ruleForms text table-distinct)
     (λ e k values st. found-none ruleForms text table-distinct (e ∙ sym table-length) k values (st .rest) (rw table-length (st .form)) (st .fits) (st .reads))
+    (λ outside m rule st. clash (rule-found text m rule st) outside)
 
 -- ---- and what has a cause is read so
 
@@ -115,18 +123,19 @@ no-form-read n text none = by-form (eqb (found ruleForms text .form) formCount) 
         let hits = found-hits ruleForms text table-distinct in
         absurd (none (found ruleForms text .form) (found ruleForms text .values) (line-at hits (in-table hits (eqb-false _ _ e))))
 
-out-of-range-read : (n : ℕ) (text : List ℕ) (k : ℕ) (values : List ℕ) → Stands text k values → allInRange (formAt ruleForms k) values ≡ false → readLine n text ≡ Bad 11
-unfolding readLine lineAfter
-out-of-range-read n text k values st outside =
-    let form = st .form in
-    rw (
-      st .reads,
-      found-written ruleForms k values (st .rest) table-distinct (rw table-length form) (st .fits),
-      ne-eqb k formCount (λ e. omega arith),
-      values-by-marks (formAt ruleForms k) values,
-      padded-in-range (formAt ruleForms k) values (few-marks k form),
-      outside,
-    )
+out-of-range-read : (n : ℕ) (text : List ℕ) (k : ℕ) (values : List ℕ) → Stands text k values → ((m : ℕ) (rule : Rule) → RuleStands text m rule → ⊥) → readLine n text ≡ Bad 11
+out-of-range-read n text k values st none = by-read (readLine n text) (line-says n text)
+  where
+    by-cause : {number : ℕ} → Cause n text number → number ≡ 11
+    by-cause (no-form none-there) = absurd (none-there k values st)
+    by-cause (out-of-range j others there outside) = refl
+    by-cause (not-next m rule there other) = absurd (none m rule there)
+    by-cause (same-twice rule there same) = absurd (none n rule there)
+    by-cause (unsound rule there distinct bad) = absurd (none n rule there)
+
+    by-read : (read : LineRead) → Says n text read → read ≡ Bad 11
+    by-read (Good entry) good = absurd (none n (entry .rule) (good .stands))
+    by-read (Bad number) cause = ap Bad (by-cause cause)
 
 has-cause : (n : ℕ) (text : List ℕ) {number : ℕ} → Cause n text number → readLine n text ≡ Bad number
 unfolding ruleRead
@@ -136,7 +145,7 @@ has-cause n text (not-next m rule st other) = after-rule n text m rule st ∙ rw
 has-cause n text (same-twice rule st same) = after-rule n text n rule st ∙ rw (eq-eqb n n refl, same)
 has-cause n text (unsound rule st distinct bad) = after-rule n text n rule st ∙ rw (eq-eqb n n refl, distinct, bad)
 
-is-good : (n : ℕ) (text : List ℕ) (entry : Entry) → GoodLine n text entry → readLine n text ≡ Good entry
+is-good : (n : ℕ) (text : List ℕ) (entry : Parsed) → GoodLine n text entry → readLine n text ≡ Good entry
 unfolding ruleRead
 is-good n text entry good = after-rule n text n (entry .rule) (good .stands) ∙ rw (eq-eqb n n refl, good .distinct, good .sound, ← good .length)
 
@@ -147,7 +156,7 @@ pub line-refused : (n : ℕ) (text : List ℕ) (number : ℕ) → (readLine n te
 line-refused n text number = ((λ e. subst (Says n text) e (line-says n text)), has-cause n text)
 
 -- and is good exactly where it is an accepted rule's text
-pub line-good : (n : ℕ) (text : List ℕ) (entry : Entry) → (readLine n text ≡ Good entry) ↔ GoodLine n text entry
+pub line-good : (n : ℕ) (text : List ℕ) (entry : Parsed) → (readLine n text ≡ Good entry) ↔ GoodLine n text entry
 line-good n text entry = ((λ e. subst (Says n text) e (line-says n text)), is-good n text entry)
 
 -- ---- number by number
@@ -164,11 +173,11 @@ module _ (n : ℕ) (text : List ℕ) where
       says : Cause n text 10 → (k : ℕ) (values : List ℕ) → Stands text k values → ⊥
       says (no-form none) = none
 
-  -- one is, and a number is outside its range
-  pub line-11 : (readLine n text ≡ Bad 11) ↔ ((k : ℕ) × (values : List ℕ) × Stands text k values × (allInRange (formAt ruleForms k) values ≡ false))
+  -- one is, and no rule in range is, under no number in range
+  pub line-11 : (readLine n text ≡ Bad 11) ↔ ((k : ℕ) × (values : List ℕ) × Stands text k values × ((m : ℕ) (rule : Rule) → RuleStands text m rule → ⊥))
   line-11 = means says (λ cause. out-of-range (cause .0) (cause .1) (cause .2) (cause .3))
     where
-      says : Cause n text 11 → (k : ℕ) × (values : List ℕ) × Stands text k values × (allInRange (formAt ruleForms k) values ≡ false)
+      says : Cause n text 11 → (k : ℕ) × (values : List ℕ) × Stands text k values × ((m : ℕ) (rule : Rule) → RuleStands text m rule → ⊥)
       says (out-of-range k values st outside) = (k, values, st, outside)
 
   -- a rule in range is, under another number than the next

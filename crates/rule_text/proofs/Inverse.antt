@@ -10,7 +10,7 @@ use lib.Dec.{leb, ltb, eqb}
 use lib.IntN.{ℤ, pos, negsuc}
 use borrow.Author.Tests.{leb-true, ltb-true, le-leb, eqb-true}
 use Rattle.sets.proofs.Booleans.{both, both-true, left-true, right-true}
-use Rattle.forms.specs.Numbers.{isDigit, signedCode}
+use Rattle.forms.specs.Numbers.{isDigit, signedCode, coordinateOf}
 use Rattle.forms.specs.Kinds.{kindOf, lookup, isSlot, inRangeBy, inRange}
 use Rattle.forms.specs.Forms.{head, tail, fill, allInRange}
 use Rattle.forms.specs.Tables.{linesIn, formAt, found, distinct}
@@ -20,7 +20,7 @@ use Rattle.places.specs.declared.Side.the-variants.{Inside, Outside}
 use Rattle.rules.specs.Acceptance.{ruleInRange}
 use Rattle.rules.specs.declared.families.Rule.{Rule}
 use Rattle.rules.specs.declared.families.Rule.the-variants.{Prerequisite, MaxUsers, MaxRoles, MaxPermissions, MaxActive, StaticSeparation, DynamicSeparation, Dependency, TimeContext, LocationContext, HistorySeparation, BindingOfDuty}
-use Rattle.rule_text.specs.Lines.{ruleForms, formCount, line, lineOf, lineText, ruleText, narrow, coordinate, ruleOf}
+use Rattle.rule_text.specs.Lines.{ruleForms, formCount, line, lineOf, lineText, ruleText, narrow, ruleOfForm}
 use Rattle.forms.specs.declared.tables.Found.{Found}
 use Rattle.rule_text.specs.declared.lines.Line.{Line}
 use Rattle.forms.proofs.Finding.{found-hits, found-written}
@@ -73,9 +73,6 @@ rule-form k h =
         first-range : (m : ℕ) (marks values : List ℕ) → rangesHold (m ∷ marks) values ≡ true → inRange m (head values) ≡ true
         first-range m marks values r = unfold rangesHold in (left-true (inRange m (head values)) (rangesHold marks (tail values)) r)
 
-pub few-marks : (k : ℕ) → k < formCount → length (marksAt k) ≤ 6
-few-marks k h = rule-form k h .few
-
 -- ---- from a line to its rule and back
 
 head-first : (values : List ℕ) → getD values 0 0 ≡ head values
@@ -102,21 +99,21 @@ module _ (k : ℕ) (values : List ℕ) (h : k < formCount) (six : length values 
   pub number-bounds : (1 ≤ getD values 0 0) × (getD values 0 0 ≤ 128)
   number-bounds = rw (head-first values) (form .number-first values ranges)
 
-  pub line-same : lineOf (getD values 0 0) (ruleOf k values) ≡ line k (padded (valuesFor (marksAt k) values))
+  pub line-same : lineOf (getD values 0 0) (ruleOfForm k values) ≡ line k (padded (valuesFor (marksAt k) values))
   line-same =
-      ap (λ (n : ℕ). lineOf n (ruleOf k values)) (sym (narrow-same (getD values 0 0) 128 (number-bounds .1) (omega arith)))
-      ∙ subst⁻¹ (λ (v : List ℕ). lineOf (narrow (getD v 0 0)) (ruleOf k v) ≡ line k (padded (heldFor (marksAt k) v))) (six-values values six)
+      ap (λ (n : ℕ). lineOf n (ruleOfForm k values)) (sym (narrow-same (getD values 0 0) 128 (number-bounds .1) (omega arith)))
+      ∙ subst⁻¹ (λ (v : List ℕ). lineOf (narrow (getD v 0 0)) (ruleOfForm k v) ≡ line k (padded (heldFor (marksAt k) v))) (six-values values six)
       (line-held k (getD values 0 0) (getD values 1 0) (getD values 2 0) (getD values 3 0) (getD values 4 0) (getD values 5 0) h)
       ∙ ap (λ (v : List ℕ). line k (padded v)) (all-held (marksAt k) values (form .fields-hold) ranges)
 
-  pub text-same : ruleText (getD values 0 0) (ruleOf k values) ≡ fill (formAt ruleForms k) values
+  pub text-same : ruleText (getD values 0 0) (ruleOfForm k values) ≡ fill (formAt ruleForms k) values
   unfolding ruleText
   text-same = ap lineText line-same ∙ padded-text (formAt ruleForms k) values (form .few)
 
-  pub made-in-range : ruleInRange (ruleOf k values) ≡ true
+  pub made-in-range : ruleInRange (ruleOfForm k values) ≡ true
   made-in-range =
-      right-true (leb 1 (getD values 0 0) && leb (getD values 0 0) 128) (ruleInRange (ruleOf k values))
-      (sym (line-in-range (getD values 0 0) (ruleOf k values) (made-short k values h))
+      right-true (leb 1 (getD values 0 0) && leb (getD values 0 0) 128) (ruleInRange (ruleOfForm k values))
+      (sym (line-in-range (getD values 0 0) (ruleOfForm k values) (made-short k values h))
       ∙ ap (λ (l : Line). allInRange (formAt ruleForms (l .form)) (l .values)) line-same
       ∙ padded-in-range (formAt ruleForms k) values (form .few)
       ∙ in-range)
@@ -130,14 +127,14 @@ code-injective (pos m) (negsuc n) p q e = absurd (omega arith)
 code-injective (negsuc m) (pos n) p q e = absurd (omega arith)
 code-injective (negsuc m) (negsuc n) p q e = ap negsuc (omega arith)
 
-place-same : (x : ℤ) → IsShort x → signedCode (coordinate (signedCode x)) ≡ signedCode x → coordinate (signedCode x) ≡ x
-place-same x short e = code-injective (coordinate (signedCode x)) x (coordinate-short (signedCode x)) short e
+place-same : (x : ℤ) → IsShort x → signedCode (coordinateOf (signedCode x)) ≡ signedCode x → coordinateOf (signedCode x) ≡ x
+place-same x short e = code-injective (coordinateOf (signedCode x)) x (coordinate-short (signedCode x)) short e
 
 abbrev HoldsAll : Line → Type 0
 HoldsAll l = (i : ℕ) → getD (heldFor (marksAt (l .form)) (l .values)) i 0 ≡ getD (valuesFor (marksAt (l .form)) (l .values)) i 0
 
-rule-held : (n : ℕ) (rule : Rule) → IsShortRule rule → HoldsAll (lineOf n rule) → ruleOf (lineOf n rule .form) (lineOf n rule .values) ≡ rule
-unfolding lineOf ruleOf heldFor valuesFor marksIn formAt linesIn ruleForms isSlot kindOf lookup
+rule-held : (n : ℕ) (rule : Rule) → IsShortRule rule → HoldsAll (lineOf n rule) → ruleOfForm (lineOf n rule .form) (lineOf n rule .values) ≡ rule
+unfolding lineOf ruleOfForm heldFor valuesFor marksIn formAt linesIn ruleForms isSlot kindOf lookup
 rule-held n (Prerequisite r q) short e = rw (e 1, e 2)
 rule-held n (MaxUsers r limit) short e = rw (e 1, e 2)
 rule-held n (MaxRoles limit) short e = rw (e 1)
@@ -198,7 +195,7 @@ module _ (n : ℕ) (rule : Rule) (first : 1 ≤ n) (last : n ≤ 128) (in-range 
       line-in-range n rule (in-range-short rule in-range)
       ∙ both-true (leb 1 n && leb n 128) (ruleInRange rule) (both-true (leb 1 n) (leb n 128) (le-leb 1 n first) (le-leb n 128 last)) in-range
 
-  pub rule-same : ruleOf (lineOf n rule .form) (lineOf n rule .values) ≡ rule
+  pub rule-same : ruleOfForm (lineOf n rule .form) (lineOf n rule .values) ≡ rule
   rule-same =
       let fields : HoldsAll (lineOf n rule) = λ i. ap (λ (l : List ℕ). getD l i 0)
       (all-held (marksAt (lineOf n rule .form)) (lineOf n rule .values) (rule-form (lineOf n rule .form) (form-of-rule n rule) .fields-hold)

@@ -1,5 +1,4 @@
 pub mod Marks
-pub mod Coordinates
 pub mod Values
 pub mod Ranges
 pub mod Inverse
@@ -11,3 +10,5 @@ pub mod Loaded
 pub mod Back
 pub mod Texts
 pub mod Room
+pub mod Copies
+pub mod Words

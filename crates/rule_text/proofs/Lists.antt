@@ -13,30 +13,34 @@ use Rattle.sets.proofs.Booleans.{both, both-true}
 use Rattle.rules.specs.Acceptance.{ruleInRange, ruleDistinct, ruleSound, ruleAccepted, every}
 use Rattle.rules.specs.declared.families.Rule.{Rule}
 use Rattle.rule_text.specs.Lines.{ruleText, listText}
-use Rattle.rule_text.specs.Reading.{readLine, LinesRead, stopped, lineLength, after, readFrom, readLines}
+use Rattle.rule_text.specs.Reading.{readLine, LinesRead, stopped, lengthIn, lineThen, readFrom, readLines}
 use Rattle.rule_text.specs.Causes.{Cause, no-form, out-of-range, not-next, same-twice, unsound, GoodLine}
-use Rattle.rule_text.specs.declared.reading.Entry.{Entry}
+use Rattle.rule_text.specs.declared.reading.Parsed.{Parsed}
 use Rattle.rule_text.specs.declared.reading.LineRead.{LineRead}
 use Rattle.rule_text.specs.declared.reading.LineRead.the-variants.{Good, Bad}
 use Rattle.rule_text.proofs.Causes.{Says, line-says, line-good, line-refused}
 use Rattle.rule_text.proofs.Inverse.{text-some}
 
 pub step : (bound n : ℕ) (s : List ℕ) → 0 < length s
-    → readFrom (suc bound) n s ≡ after (readLine n s) (readFrom bound (suc n) (drop (lineLength (readLine n s)) s))
+    → readFrom (suc bound) n s ≡ lineThen (readLine n s) (readFrom bound (suc n) (drop (lengthIn (readLine n s)) s))
 unfolding readFrom
 step bound n [] some = absurd (omega arith)
 step bound n (c ∷ s) some = refl
 
+-- a line is refused with 10 to 14 alone
+pub cause-number : {n : ℕ} {text : List ℕ} {number : ℕ} → Cause n text number → (10 ≤ number) × (number ≤ 14)
+cause-number (no-form none) = (omega arith, omega arith)
+cause-number (out-of-range k values st outside) = (omega arith, omega arith)
+cause-number (not-next m rule st other) = (omega arith, omega arith)
+cause-number (same-twice rule st same) = (omega arith, omega arith)
+cause-number (unsound rule st distinct bad) = (omega arith, omega arith)
+
 -- no refusal is 0
 pub cause-some : {n : ℕ} {text : List ℕ} {number : ℕ} → Cause n text number → 0 < number
-cause-some (no-form none) = omega arith
-cause-some (out-of-range k values st outside) = omega arith
-cause-some (not-next m rule st other) = omega arith
-cause-some (same-twice rule st same) = omega arith
-cause-some (unsound rule st distinct bad) = omega arith
+cause-some cause = omega (arith, cause-number cause .0)
 
 -- a good line's rule is accepted
-pub good-accepted : {n : ℕ} {text : List ℕ} {entry : Entry} → GoodLine n text entry → ruleAccepted (entry .rule) ≡ true
+pub good-accepted : {n : ℕ} {text : List ℕ} {entry : Parsed} → GoodLine n text entry → ruleAccepted (entry .rule) ≡ true
 good-accepted {n} {text} {entry} good =
     both-true (ruleInRange (entry .rule)) (ruleDistinct (entry .rule) && ruleSound (entry .rule)) (good .stands .in-range)
     (both-true (ruleDistinct (entry .rule)) (ruleSound (entry .rule)) (good .distinct) (good .sound))
@@ -98,8 +102,8 @@ unfolding listText every
 reads-bad n text number most some cause =
     record { accepted = refl; few = omega arith; rest = text; reads = refl; bytes = refl; stops = inr (some, rw add-zero cause) }
 
-reads-good : (n : ℕ) (text : List ℕ) (entry : Entry) (lines : LinesRead) → GoodLine n text entry → Reads (suc n) (drop (entry .length) text) lines
-    → Reads n text (after (Good entry) lines)
+reads-good : (n : ℕ) (text : List ℕ) (entry : Parsed) (lines : LinesRead) → GoodLine n text entry → Reads (suc n) (drop (entry .length) text) lines
+    → Reads n text (lineThen (Good entry) lines)
 unfolding listText every
 reads-good n text entry lines good next =
     let text-there = good .stands .reads in
@@ -119,11 +123,11 @@ unfolding readFrom
 reads-from zero n text most enough = absurd (omega arith)
 reads-from (suc bound) n [] most enough = reads-end n most
 reads-from (suc bound) n (c ∷ text) most enough =
-    go (readLine n (c ∷ text)) (line-says n (c ∷ text)) (λ last. reads-from bound (suc n) (drop (lineLength (readLine n (c ∷ text))) (c ∷ text)) last (omega arith))
+    go (readLine n (c ∷ text)) (line-says n (c ∷ text)) (λ last. reads-from bound (suc n) (drop (lengthIn (readLine n (c ∷ text))) (c ∷ text)) last (omega arith))
   where
     go : (read : LineRead) → Says n (c ∷ text) read
-        → (suc n ≤ 129 → Reads (suc n) (drop (lineLength read) (c ∷ text)) (readFrom bound (suc n) (drop (lineLength read) (c ∷ text))))
-        → Reads n (c ∷ text) (after read (readFrom bound (suc n) (drop (lineLength read) (c ∷ text))))
+        → (suc n ≤ 129 → Reads (suc n) (drop (lengthIn read) (c ∷ text)) (readFrom bound (suc n) (drop (lengthIn read) (c ∷ text))))
+        → Reads n (c ∷ text) (lineThen read (readFrom bound (suc n) (drop (lengthIn read) (c ∷ text))))
     go (Bad number) cause next = reads-bad n (c ∷ text) number most (omega arith) cause
     go (Good entry) good next =
         reads-good n (c ∷ text) entry (readFrom bound (suc n) (drop (entry .length) (c ∷ text))) good (next (omega (arith, good .stands .last)))

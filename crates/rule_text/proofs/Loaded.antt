@@ -28,6 +28,12 @@ pub loaded-zero : (lines : LinesRead) → loadedOf lines .number ≡ 0 → lines
 loaded-zero lines none =
     ⊎-elim (λ e. e) (λ some. absurd (omega (arith, some, ap (λ (l : LoadedRules). l .number) (loaded-bad lines some), none))) (zero-or-some (lines .number))
 
+-- and then the list is all that tells one from another
+pub loaded-list : (lines : LinesRead) → loadedOf lines .number ≡ 0 → loadedOf lines ≡ record { number = 0; line = 0; list = loadedOf lines .list }
+loaded-list lines none =
+    let whole = loaded-whole lines (loaded-zero lines none) in
+    whole ∙ ap (λ (l : RuleList). record { number = 0; line = 0; list = l }) (ap (λ (l : LoadedRules). l .list) (sym whole))
+
 pub loaded-some : (lines : LinesRead) → 0 < loadedOf lines .number → 0 < lines .number
 loaded-some lines some =
     ⊎-elim (λ none. absurd (omega (arith, some, ap (λ (l : LoadedRules). l .number) (loaded-whole lines none)))) (λ e. e) (zero-or-some (lines .number))

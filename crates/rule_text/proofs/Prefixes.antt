@@ -10,9 +10,9 @@ use lib.ListN.{length, take, drop, set, length-append, length-drop}
 use lib.Seq.{sets}
 use Rattle.rules.specs.declared.lists.RuleList.{RuleList}
 use Rattle.rule_text.specs.Lines.{ruleText}
-use Rattle.rule_text.specs.Reading.{readLine, LinesRead, stopped, lineLength, refusalOf, after, readFrom, readLines, slot, listOf, prefixOf}
+use Rattle.rule_text.specs.Reading.{readLine, LinesRead, stopped, lengthIn, numberIn, lineThen, readFrom, readLines, slot, listOf, prefixOf}
 use Rattle.rule_text.specs.Causes.{GoodLine}
-use Rattle.rule_text.specs.declared.reading.Entry.{Entry}
+use Rattle.rule_text.specs.declared.reading.Parsed.{Parsed}
 use Rattle.rule_text.specs.declared.reading.LineRead.{LineRead}
 use Rattle.rule_text.specs.declared.reading.LineRead.the-variants.{Good, Bad}
 use Rattle.rule_text.specs.declared.reading.Prefix.{Prefix}
@@ -51,8 +51,8 @@ start text list e = record {
   same = start-same (readLines text) ∙ ap (λ (l : RuleList). onto l 0 (readFrom 129 1 text)) (sym e);
 }
 
-one-more : (list list′ : RuleList) (bytes : ℕ) (entry : Entry) (lines : LinesRead) → list′ .slots ≡ set (list .slots) (list .length) (slot (entry .rule)) → list′ .length ≡ list .length + 1
-    → onto list bytes (after (Good entry) lines) ≡ onto list′ (bytes + entry .length) lines
+one-more : (list list′ : RuleList) (bytes : ℕ) (entry : Parsed) (lines : LinesRead) → list′ .slots ≡ set (list .slots) (list .length) (slot (entry .rule)) → list′ .length ≡ list .length + 1
+    → onto list bytes (lineThen (Good entry) lines) ≡ onto list′ (bytes + entry .length) lines
 one-more list list′ bytes entry lines slots counted =
     let e : list .length + suc (length (lines .rules)) ≡ suc (list .length) + length (lines .rules) = omega arith in
     rw (slots, counted, add-one, e, add-assoc)
@@ -62,12 +62,12 @@ nothing-more list bytes number = rw (add-zero, add-zero)
 
 module _ {text : List ℕ} {list : RuleList} {rest : List ℕ} {bytes line : ℕ} (inv : Inv text list rest bytes line) (some : 0 < length rest)
     {answer : LineRead} (read : answer ≡ readLine line rest) where
-  here : readFrom (130 - line) line rest ≡ after answer (readFrom (129 - line) (suc line) (drop (lineLength answer) rest))
+  here : readFrom (130 - line) line rest ≡ lineThen answer (readFrom (129 - line) (suc line) (drop (lengthIn answer) rest))
   here =
       let bound : 130 - line ≡ suc (129 - line) = omega (arith, inv .last) in
       rw (bound, read) (step (129 - line) line rest some)
 
-  module _ {entry : Entry} (good : answer ≡ Good entry) where
+  module _ {entry : Parsed} (good : answer ≡ Good entry) where
     good-here : GoodLine line rest entry
     good-here = line-good line rest entry .0 (sym read ∙ good)
 
@@ -94,10 +94,10 @@ module _ {text : List ℕ} {list : RuleList} {rest : List ℕ} {bytes line : ℕ
               ∙ rw (good, bound, add-one) (one-more list list′ bytes entry (readFrom (129 - line) (suc line) (drop (entry .length) rest)) slots counted);
         })
 
-  pub stop : {number : ℕ} → answer ≡ Bad number → {code : ℕ} → code ≡ refusalOf answer
+  pub stop : {number : ℕ} → answer ≡ Bad number → {code : ℕ} → code ≡ numberIn answer
       → record { list = list; length = bytes; number = code; line = line } ≡ prefixOf (readLines text)
   stop {number} bad {code} told =
-      (λ j. record { list = list; length = bytes; number = (told ∙ ap refusalOf bad) j; line = inv .counted j })
+      (λ j. record { list = list; length = bytes; number = (told ∙ ap numberIn bad) j; line = inv .counted j })
       ∙ sym (inv .same ∙ ap (onto list bytes) here ∙ rw bad (nothing-more list bytes number))
 
 pub end : {text : List ℕ} {list : RuleList} (rest : List ℕ) {bytes line : ℕ} → Inv text list rest bytes line → length rest ≤ 0

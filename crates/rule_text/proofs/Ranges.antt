@@ -1,7 +1,7 @@
 -- The ranges of a line's values are those of its rule: what 11 looks for in a text is what 40 looks for in a rule handed in.
 -- Assumes nothing.
 use mathlib.Core.Path.{_≡_, refl, sym, _∙_}
-use mathlib.Core.Bool.{Bool, true, false, cond, _&&_}
+use mathlib.Core.Bool.{Bool, true, false, _&&_}
 use mathlib.Core.List.{List}
 use Prim.Native.Nat.{ℕ, suc, _+_, _-_, _/_, _≤_, _<_}
 use native.Mathlib.Omega.{arith}
@@ -10,7 +10,7 @@ use lib.Dec.{leb, leb·zero, leb·suc-suc}
 use lib.IntN.{ℤ, pos, negsuc, natAbs}
 use borrow.Author.Tests.{leb-true, le-leb, lt-ltb, le-ltb}
 use Rattle.sets.proofs.Booleans.{both, both-true, left-true, right-true, same-test}
-use Rattle.forms.specs.Numbers.{signedCode, signedValue}
+use Rattle.forms.specs.Numbers.{signedCode, coordinateOf}
 use Rattle.forms.specs.Kinds.{kindOf, lookup, isSlot, amountOf, inRangeBy, inRange}
 use Rattle.forms.specs.Forms.{allInRange}
 use Rattle.forms.specs.Tables.{linesIn, formAt}
@@ -23,7 +23,8 @@ use Rattle.places.specs.declared.Side.the-variants.{Inside, Outside}
 use Rattle.rules.specs.Acceptance.{isRole, isPermission, ruleInRange}
 use Rattle.rules.specs.declared.families.Rule.{Rule}
 use Rattle.rules.specs.declared.families.Rule.the-variants.{Prerequisite, MaxUsers, MaxRoles, MaxPermissions, MaxActive, StaticSeparation, DynamicSeparation, Dependency, TimeContext, LocationContext, HistorySeparation, BindingOfDuty}
-use Rattle.rule_text.specs.Lines.{ruleForms, formCount, lineOf, coordinate, ruleOf}
+use Rattle.rule_text.specs.Lines.{ruleForms, formCount, lineOf, ruleOfForm}
+use Rattle.forms.proofs.Coordinates.{coordinate-grid}
 use Rattle.rule_text.proofs.Marks.{marksIn, rangesHold, ranges-by-marks}
 use Rattle.rule_text.proofs.Values.{marksAt, each-at}
 
@@ -196,22 +197,17 @@ in-range-short (LocationContext r side) h = shape-short (shapeOf side) (right-tr
 in-range-short (HistorySeparation p q) h = tt
 in-range-short (BindingOfDuty p q) h = tt
 
-pub coordinate-short : (value : ℕ) → IsShort (coordinate value)
-unfolding coordinate
-coordinate-short value = by-grid (onGrid (signedValue value)) refl
-  where
-    by-grid : (b : Bool) → onGrid (signedValue value) ≡ b → IsShort (cond b (signedValue value) (pos 0))
-    by-grid true e = on-grid-short (signedValue value) e
-    by-grid false e = omega arith
+pub coordinate-short : (value : ℕ) → IsShort (coordinateOf value)
+coordinate-short value = on-grid-short (coordinateOf value) (coordinate-grid value)
 
 -- and so does one made of values
-pub made-short : (k : ℕ) (values : List ℕ) → k < formCount → IsShortRule (ruleOf k values)
-unfolding ruleOf
+pub made-short : (k : ℕ) (values : List ℕ) → k < formCount → IsShortRule (ruleOfForm k values)
+unfolding ruleOfForm
 made-short k values h =
-    let short : (i : ℕ) → IsShort (coordinate (getD values i 0)) = λ i. coordinate-short (getD values i 0) in
-    let circle : IsShort (coordinate (getD values 2 0)) × IsShort (coordinate (getD values 3 0)) = (short 2, short 3) in
-    let box : IsShortShape (Box (coordinate (getD values 2 0)) (coordinate (getD values 3 0)) (coordinate (getD values 4 0)) (coordinate (getD values 5 0))) =
+    let short : (i : ℕ) → IsShort (coordinateOf (getD values i 0)) = λ i. coordinate-short (getD values i 0) in
+    let circle : IsShort (coordinateOf (getD values 2 0)) × IsShort (coordinateOf (getD values 3 0)) = (short 2, short 3) in
+    let box : IsShortShape (Box (coordinateOf (getD values 2 0)) (coordinateOf (getD values 3 0)) (coordinateOf (getD values 4 0)) (coordinateOf (getD values 5 0))) =
     ((short 2, short 3), (short 4, short 5)) in
-    each-at (λ k. IsShortRule (ruleOf k values))
+    each-at (λ k. IsShortRule (ruleOfForm k values))
     (tt, (tt, (tt, (tt, (tt, (tt, (tt, (tt, (tt, (tt, (tt, (tt, (tt, (circle, (box, (circle, (box, (tt, (tt, tt)))))))))))))))))))
     k h

@@ -1,45 +1,29 @@
 -- A value in its range is what a rule's field holds of it, and a line's rule has that line again.
 -- Assumes nothing.
-use mathlib.Core.Path.{_≡_, refl, _∙_}
-use mathlib.Core.Bool.{Bool, true, false, cond, _&&_}
+use mathlib.Core.Path.{_≡_, refl}
+use mathlib.Core.Bool.{Bool, true, _&&_}
 use mathlib.Core.List.{List, [], _∷_}
 use Prim.Native.Nat.{ℕ, zero, suc, _+_, _-_, _%_, _≤_, _<_}
 use native.Mathlib.Nat.{mod-eq-of-lt}
 use native.Mathlib.Omega.{arith}
 use lib.ListN.{length, getD, List·getD-eq-default}
-use lib.Dec.{ltb, leb}
-use lib.IntN.{pos}
-use borrow.Author.Tests.{leb-true, ltb-true, le-leb, lt-ltb, le-ltb}
+use lib.Dec.{leb}
+use borrow.Author.Tests.{leb-true, le-leb}
 use Rattle.sets.proofs.Booleans.{both}
-use Rattle.forms.specs.Numbers.{signedCode, signedValue, minus}
+use Rattle.forms.specs.Numbers.{signedCode, coordinateOf}
 use Rattle.forms.specs.Kinds.{kindOf, lookup, syntaxOf, isSlot, amountOf, inRangeBy, inRange}
 use Rattle.forms.specs.Forms.{head, tail}
 use Rattle.forms.specs.Tables.{linesIn, formAt}
 use Rattle.forms.specs.declared.kinds.Syntax.{Syntax}
 use Rattle.forms.specs.declared.kinds.Syntax.the-variants.{Literal, Number, Signed, Date, TimeOfDay}
+use Rattle.forms.proofs.Coordinates.{code-back}
 use Rattle.rule_text.proofs.Marks.{marksIn, valuesFor, rangesHold, padded}
-use Rattle.rule_text.specs.Lines.{ruleForms, formCount, line, lineOf, narrow, onGridOrZero, coordinate, rulesWith, filler, ruleOf}
+use Rattle.rule_text.specs.Lines.{ruleForms, formCount, line, lineOf, narrow, rulesWith, filler, ruleOfForm}
 
 -- ---- a value
 
 pub narrow-same : (value high : ℕ) → value ≤ high → high ≤ 4294967295 → narrow value ≡ value
 narrow-same value high in-range narrow-high = mod-eq-of-lt (omega arith)
-
-code-same : (value : ℕ) → amountOf value ≤ 1000000 → signedCode (coordinate value) ≡ value
-unfolding amountOf coordinate signedValue signedCode
-code-same value = by-sign (ltb 10000000000 value) refl
-  where
-    below-zero : (n : ℕ) → 0 < n → n ≤ 1000000 → signedCode (onGridOrZero (minus n)) ≡ 10000000000 + n
-    below-zero zero some small = absurd (omega arith)
-    below-zero (suc n) some small = rw (le-leb (suc n) 1000000 small) (omega arith)
-
-    by-sign : (negative : Bool) → ltb 10000000000 value ≡ negative → cond negative (value - 10000000000) value ≤ 1000000
-        → signedCode (onGridOrZero (cond (ltb value 10000000000) (pos value) (cond (ltb value 20000000000) (minus (value - 10000000000)) (pos 0)))) ≡ value
-    by-sign true e small =
-        let above = ltb-true 10000000000 value e in
-        rw (le-ltb value 10000000000 (omega arith), lt-ltb value 20000000000 (omega arith))
-        (below-zero (value - 10000000000) (omega arith) small ∙ omega arith)
-    by-sign false e small = rw (lt-ltb value 10000000000 (omega arith), le-leb value 1000000 small)
 
 -- the largest amount that the field of a rule holds, by the syntax of its mark
 abbrev pub holdsTo : Syntax → ℕ
@@ -53,7 +37,7 @@ holdsTo TimeOfDay = 4294967295
 abbrev pub heldBy : Syntax → ℕ → ℕ
 heldBy Literal value = value
 heldBy Number value = narrow value
-heldBy Signed value = signedCode (coordinate value)
+heldBy Signed value = signedCode (coordinateOf value)
 heldBy Date value = narrow value
 heldBy TimeOfDay value = narrow value
 
@@ -61,7 +45,7 @@ held-same : (syntax : Syntax) (low high value : ℕ) → high ≤ holdsTo syntax
 unfolding inRangeBy
 held-same Literal low high value small h = refl
 held-same Number low high value small h = narrow-same value high (leb-true value high (both (leb low value) (leb value high) h .1)) small
-held-same Signed low high value small h = code-same value (omega (arith, leb-true (amountOf value) high h))
+held-same Signed low high value small h = code-back value (le-leb (amountOf value) 1000000 (omega (arith, leb-true (amountOf value) high h)))
 held-same Date low high value small h = narrow-same value high (leb-true value high (both (leb low value) (leb value high) h .1)) small
 held-same TimeOfDay low high value small h =
     narrow-same value high (leb-true value high (both (leb low value) (leb value high) (both (leb low value && leb value high) (leb (value % 100) 59) h .0) .1)) small
@@ -129,14 +113,14 @@ marksAt k = marksIn (formAt ruleForms k)
 
 -- the rule of a line has the line's form, and what its fields hold of the values
 pub line-held : (k a b c d e f : ℕ) → k < formCount
-    → lineOf (narrow a) (ruleOf k (a ∷ b ∷ c ∷ d ∷ e ∷ f ∷ [])) ≡ line k (padded (heldFor (marksAt k) (a ∷ b ∷ c ∷ d ∷ e ∷ f ∷ [])))
-unfolding lineOf ruleOf heldFor marksIn formAt linesIn ruleForms isSlot kindOf lookup
+    → lineOf (narrow a) (ruleOfForm k (a ∷ b ∷ c ∷ d ∷ e ∷ f ∷ [])) ≡ line k (padded (heldFor (marksAt k) (a ∷ b ∷ c ∷ d ∷ e ∷ f ∷ [])))
+unfolding lineOf ruleOfForm heldFor marksIn formAt linesIn ruleForms isSlot kindOf lookup
 line-held k a b c d e f h =
-    each-at (λ k. lineOf (narrow a) (ruleOf k (a ∷ b ∷ c ∷ d ∷ e ∷ f ∷ [])) ≡ line k (padded (heldFor (marksAt k) (a ∷ b ∷ c ∷ d ∷ e ∷ f ∷ []))))
+    each-at (λ k. lineOf (narrow a) (ruleOfForm k (a ∷ b ∷ c ∷ d ∷ e ∷ f ∷ [])) ≡ line k (padded (heldFor (marksAt k) (a ∷ b ∷ c ∷ d ∷ e ∷ f ∷ []))))
     (refl, (refl, (refl, (refl, (refl, (refl, (refl, (refl, (refl, (refl, (refl, (refl, (refl, (refl, (refl, (refl, (refl, (refl, (refl, tt)))))))))))))))))))
     k h
 
 -- past the table it is the filler
-pub past-forms : (k : ℕ) (values : List ℕ) → formCount ≤ k → ruleOf k values ≡ filler
-unfolding ruleOf
-past-forms k values past = List·getD-eq-default (rulesWith (λ i. narrow (getD values i 0)) (λ i. coordinate (getD values i 0))) filler past
+pub past-forms : (k : ℕ) (values : List ℕ) → formCount ≤ k → ruleOfForm k values ≡ filler
+unfolding ruleOfForm
+past-forms k values past = List·getD-eq-default (rulesWith (λ i. narrow (getD values i 0)) (λ i. coordinateOf (getD values i 0))) filler past

@@ -6,12 +6,12 @@ use mathlib.Core.Bool.{true, false}
 use mathlib.Core.List.{List, _++_}
 use Prim.Native.Nat.{ℕ, suc, _≤_, _<_}
 use lib.ListN.{length}
-use Rattle.forms.specs.Forms.{fill, allInRange, valuesFit}
+use Rattle.forms.specs.Forms.{fill, valuesFit}
 use Rattle.forms.specs.Tables.{formAt}
 use Rattle.rules.specs.Acceptance.{ruleInRange, ruleDistinct, ruleSound, ruleAccepted, every}
 use Rattle.rules.specs.declared.families.Rule.{Rule}
 use Rattle.rule_text.specs.Lines.{ruleForms, formCount, ruleText, listText}
-use Rattle.rule_text.specs.declared.reading.Entry.{Entry}
+use Rattle.rule_text.specs.declared.reading.Parsed.{Parsed}
 
 -- form k with these values is the front of the text
 pub record Stands (text : List ℕ) (k : ℕ) (values : List ℕ) : Type 0 where
@@ -32,8 +32,8 @@ pub record RuleStands (text : List ℕ) (n : ℕ) (rule : Rule) : Type 0 where
 pub data Cause (n : ℕ) (text : List ℕ) : ℕ → Type 0 where
   -- "line is no form of its text"
   no-form : ((k : ℕ) (values : List ℕ) → Stands text k values → ⊥) → Cause n text 10
-  -- "number outside its range"
-  out-of-range : (k : ℕ) (values : List ℕ) → Stands text k values → allInRange (formAt ruleForms k) values ≡ false → Cause n text 11
+  -- "number outside its range": a form with some numbers stands there, and no rule in range, under no number in range
+  out-of-range : (k : ℕ) (values : List ℕ) → Stands text k values → ((m : ℕ) (rule : Rule) → RuleStands text m rule → ⊥) → Cause n text 11
   -- "rule number not the next"
   not-next : (m : ℕ) (rule : Rule) → RuleStands text m rule → (m ≡ n → ⊥) → Cause n text 12
   -- "same role or permission twice in a rule"
@@ -42,7 +42,7 @@ pub data Cause (n : ℕ) (text : List ℕ) : ℕ → Type 0 where
   unsound : (rule : Rule) → RuleStands text n rule → ruleDistinct rule ≡ true → ruleSound rule ≡ false → Cause n text 14
 
 -- a good line: rule n, which none of the causes has
-pub record GoodLine (n : ℕ) (text : List ℕ) (entry : Entry) : Type 0 where
+pub record GoodLine (n : ℕ) (text : List ℕ) (entry : Parsed) : Type 0 where
   pub stands : RuleStands text n (entry .rule)
   pub distinct : ruleDistinct (entry .rule) ≡ true
   pub sound : ruleSound (entry .rule) ≡ true

@@ -1,15 +1,13 @@
 -- Document 01, 'Texts': "Rule list: `(rule 1 (needs 2 1))`, `(rule 2 (at 2 (inside (circle 0 0 500))))`". A rule's line.
 -- Assumes nothing.
-use mathlib.Core.Bool.{cond}
 use mathlib.Core.List.{List, [], _∷_, _++_}
 use Prim.Native.Nat.{ℕ, suc, _%_}
 use lib.ListN.{getD}
-use lib.IntN.{ℤ, pos}
-use Rattle.forms.specs.Numbers.{signedCode, signedValue}
+use lib.IntN.{ℤ}
+use Rattle.forms.specs.Numbers.{signedCode, coordinateOf}
 use Rattle.forms.specs.Forms.{fill}
 use Rattle.forms.specs.Tables.{bytes, formAt}
 use Rattle.calendar.specs.declared.terms.Term.the-variants.{Dates, Week, Months, Nth, Every}
-use Rattle.places.specs.Places.{onGrid}
 use Rattle.places.specs.declared.Shape.the-variants.{Circle, Box}
 use Rattle.places.specs.declared.Side.the-variants.{Inside, Outside}
 use Rattle.rules.specs.declared.families.Rule.{Rule}
@@ -84,15 +82,9 @@ listText n (rule ∷ rules) = ruleText n rule ++ listText (suc n) rules
 
 -- ---- a line as a rule
 
--- a value as a number of a rule, and as a coordinate; in range both are the value itself
+-- a value as a number of a rule; in range it is the value itself
 abbrev pub narrow : ℕ → ℕ
 narrow value = value % 4294967296
-
-abbrev pub onGridOrZero : ℤ → ℤ
-onGridOrZero z = cond (onGrid z) z (pos 0)
-
-unfoldable pub coordinate : ℕ → ℤ
-coordinate value = onGridOrZero (signedValue value)
 
 -- the rule of each form, over its numbers and its coordinates
 abbrev pub rulesWith : (ℕ → ℕ) → (ℕ → ℤ) → List Rule
@@ -122,5 +114,5 @@ rulesWith number place =
 abbrev pub filler : Rule
 filler = MaxRoles 0
 
-unfoldable pub ruleOf : ℕ → List ℕ → Rule
-ruleOf form values = getD (rulesWith (λ i. narrow (getD values i 0)) (λ i. coordinate (getD values i 0))) form filler
+unfoldable pub ruleOfForm : ℕ → List ℕ → Rule
+ruleOfForm form values = getD (rulesWith (λ i. narrow (getD values i 0)) (λ i. coordinateOf (getD values i 0))) form filler

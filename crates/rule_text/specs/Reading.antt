@@ -15,7 +15,7 @@ use Rattle.rules.specs.Acceptance.{ruleDistinct, ruleSound}
 use Rattle.rules.specs.declared.families.Rule.{Rule}
 use Rattle.rules.specs.declared.lists.Slot.{Slot}
 use Rattle.rules.specs.declared.lists.RuleList.{RuleList}
-use Rattle.rule_text.specs.Lines.{ruleForms, formCount, ruleOf, filler}
+use Rattle.rule_text.specs.Lines.{ruleForms, formCount, ruleOfForm, filler}
 use Rattle.rule_text.specs.declared.reading.LineRead.{LineRead}
 use Rattle.rule_text.specs.declared.reading.LineRead.the-variants.{Good, Bad}
 use Rattle.rule_text.specs.declared.reading.Prefix.{Prefix}
@@ -41,7 +41,7 @@ lineAfter n f =
     (cond (not (allInRange (formAt ruleForms (f .form)) (f .values))) (Bad 11)
     -- "rule number not the next"
     (cond (not (eqb (getD (f .values) 0 0) n)) (Bad 12)
-    (ruleRead (ruleOf (f .form) (f .values)) (f .length))))
+    (ruleRead (ruleOfForm (f .form) (f .values)) (f .length))))
 
 unfoldable pub readLine : ℕ → List ℕ → LineRead
 readLine n text = lineAfter n (found ruleForms text)
@@ -57,23 +57,23 @@ pub record LinesRead : Type 0 where
 abbrev pub stopped : ℕ → LinesRead
 stopped number = record { rules = []; length = 0; number = number }
 
-abbrev pub lineLength : LineRead → ℕ
-lineLength (Good entry) = entry .length
-lineLength (Bad number) = 0
+abbrev pub lengthIn : LineRead → ℕ
+lengthIn (Good entry) = entry .length
+lengthIn (Bad number) = 0
 
-abbrev pub refusalOf : LineRead → ℕ
-refusalOf (Good entry) = 0
-refusalOf (Bad number) = number
+abbrev pub numberIn : LineRead → ℕ
+numberIn (Good entry) = 0
+numberIn (Bad number) = number
 
-abbrev pub after : LineRead → LinesRead → LinesRead
-after (Good entry) lines = record { rules = entry .rule ∷ lines .rules; length = entry .length + lines .length; number = lines .number }
-after (Bad number) lines = stopped number
+abbrev pub lineThen : LineRead → LinesRead → LinesRead
+lineThen (Good entry) lines = record { rules = entry .rule ∷ lines .rules; length = entry .length + lines .length; number = lines .number }
+lineThen (Bad number) lines = stopped number
 
 -- from line n on; the first argument bounds the lines that are read
 unfoldable pub readFrom : ℕ → ℕ → List ℕ → LinesRead
 readFrom zero n text = stopped 0
 readFrom (suc bound) n [] = stopped 0
-readFrom (suc bound) n (c ∷ text) = after (readLine n (c ∷ text)) (readFrom bound (suc n) (drop (lineLength (readLine n (c ∷ text))) (c ∷ text)))
+readFrom (suc bound) n (c ∷ text) = lineThen (readLine n (c ∷ text)) (readFrom bound (suc n) (drop (lengthIn (readLine n (c ∷ text))) (c ∷ text)))
 
 -- "Rules are numbered 1 to 128.": no line after the 128th is good, so that 129 lines are enough
 unfoldable pub readLines : List ℕ → LinesRead
@@ -107,3 +107,7 @@ loadedOf lines =
     cond (eqb (lines .number) 0)
     (record { number = 0; line = 0; list = listOf (lines .rules) })
     (record { number = lines .number; line = suc (length (lines .rules)); list = listOf [] })
+
+-- what reading a text returns
+abbrev pub readRules : List ℕ → LoadedRules
+readRules text = loadedOf (readLines text)

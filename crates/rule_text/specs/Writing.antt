@@ -1,11 +1,9 @@
 -- Document 01: "in writing a text too, 40 comes before 18"; "A writer returns the text's length; bytes past it stay."
 -- Assumes nothing.
-use mathlib.Core.Bool.{cond}
 use mathlib.Core.List.{List}
 use Prim.Native.Nat.{ℕ}
-use Rattle.forms.specs.Writing.{writtenOf, lentAfter}
+use Rattle.forms.specs.Writing.{writtenIf, lentIf}
 use Rattle.forms.specs.declared.writing.Written.{Written}
-use Rattle.forms.specs.declared.writing.Written.the-variants.{Refused}
 use Rattle.rules.specs.Acceptance.{rulesOf, listAccepted}
 use Rattle.rules.specs.declared.lists.RuleList.{RuleList}
 use Rattle.rule_text.specs.Lines.{listText}
@@ -15,7 +13,7 @@ abbrev pub textOf : RuleList → List ℕ
 textOf list = listText 1 (rulesOf list)
 
 unfoldable pub writtenRules : RuleList → List ℕ → Written
-writtenRules list lent = cond (listAccepted list) (writtenOf (textOf list) lent) (Refused 40)
+writtenRules list lent = writtenIf (listAccepted list) (textOf list) lent
 
 unfoldable pub lentAfterRules : RuleList → List ℕ → List ℕ
-lentAfterRules list lent = cond (listAccepted list) (lentAfter (textOf list) lent) lent
+lentAfterRules list lent = lentIf (listAccepted list) (textOf list) lent

@@ -3,9 +3,9 @@ ghost use mathlib.Core.Path.{_≡_};
 ghost use mathlib.Core.List.{_∷_, []};
 ghost use Prim.Native.Nat.{_≤_, _<_};
 ghost use lib.ListN.{getD};
-ghost use Rattle.forms.specs.Numbers.{signedCode};
+ghost use Rattle.forms.specs.Numbers.{signedCode, coordinateOf};
 ghost use Rattle.rules.specs.declared.families.Rule.the-variants.{TimeContext, LocationContext};
-ghost use Rattle.rule_text.specs.Lines.{line, lineOf, narrow, coordinate, filler, ruleOf};
+ghost use Rattle.rule_text.specs.Lines.{line, lineOf, narrow, filler, ruleOfForm};
 use calendar::Term;
 use places::Shape;
 use places::Side;
@@ -203,23 +203,9 @@ fn narrow(value: u64) -> u32
     (value % 4294967296) as u32
 }
 
-// A value as a coordinate: 0 where it is off the grid.
-fn coordinate(value: u64) -> i32
-    ensures { λ z. ⌜ z ≡ coordinate value ⌝ }
-{
-    let number = forms::signed_value(value);
-    if number < -1000000 {
-        return 0;
-    }
-    if 1000000 < number {
-        return 0;
-    }
-    number as i32
-}
-
 // The rule with that form and those values.
 pub fn rule_of(form: usize, values: &[u64; 6]) -> Rule
-    ensures { λ r. ⌜ r ≡ ruleOf form (now (values .entry)) ⌝ }
+    ensures { λ r. ⌜ r ≡ ruleOfForm form (now (values .entry)) ⌝ }
 {
     let first = narrow(values[1]);
     let second = narrow(values[2]);
@@ -246,7 +232,7 @@ pub fn rule_of(form: usize, values: &[u64; 6]) -> Rule
 // The rules on roles from `max-users` to `needs`.
 fn role_rule(form: usize, values: &[u64; 6]) -> Rule
     requires { ⌜ (1 ≤ form) × (form < 8) ⌝ }
-    ensures { λ r. ⌜ r ≡ ruleOf form (now (values .entry)) ⌝ }
+    ensures { λ r. ⌜ r ≡ ruleOfForm form (now (values .entry)) ⌝ }
 {
     let first = narrow(values[1]);
     let second = narrow(values[2]);
@@ -273,7 +259,7 @@ fn role_rule(form: usize, values: &[u64; 6]) -> Rule
 // The term of a rule `during`.
 fn term_of(form: usize, values: &[u64; 6]) -> Term
     requires { ⌜ (8 ≤ form) × (form < 13) ⌝ }
-    ensures { λ t. ⌜ TimeContext (narrow (getD (now (values .entry)) 1 0)) t ≡ ruleOf form (now (values .entry)) ⌝ }
+    ensures { λ t. ⌜ TimeContext (narrow (getD (now (values .entry)) 1 0)) t ≡ ruleOfForm form (now (values .entry)) ⌝ }
 {
     let first = narrow(values[2]);
     let second = narrow(values[3]);
@@ -306,7 +292,7 @@ fn term_of(form: usize, values: &[u64; 6]) -> Term
 // The side of a rule `at`.
 fn side_of(form: usize, values: &[u64; 6]) -> Side
     requires { ⌜ (13 ≤ form) × (form < 17) ⌝ }
-    ensures { λ s. ⌜ LocationContext (narrow (getD (now (values .entry)) 1 0)) s ≡ ruleOf form (now (values .entry)) ⌝ }
+    ensures { λ s. ⌜ LocationContext (narrow (getD (now (values .entry)) 1 0)) s ≡ ruleOfForm form (now (values .entry)) ⌝ }
 {
     match form {
         13 => Side::Inside(circle_of(values)),
@@ -318,23 +304,23 @@ fn side_of(form: usize, values: &[u64; 6]) -> Side
 
 // A circle: two coordinates and a radius.
 fn circle_of(values: &[u64; 6]) -> Shape
-    ensures { λ s. ⌜ s ≡ Shape.Circle (coordinate (getD (now (values .entry)) 2 0)) (coordinate (getD (now (values .entry)) 3 0)) (narrow (getD (now (values .entry)) 4 0)) ⌝ }
+    ensures { λ s. ⌜ s ≡ Shape.Circle (coordinateOf (getD (now (values .entry)) 2 0)) (coordinateOf (getD (now (values .entry)) 3 0)) (narrow (getD (now (values .entry)) 4 0)) ⌝ }
 {
     Shape::Circle {
-        x: coordinate(values[2]),
-        y: coordinate(values[3]),
+        x: forms::coordinate(values[2]),
+        y: forms::coordinate(values[3]),
         radius: narrow(values[4]),
     }
 }
 
 // A box: its four ends.
 fn box_of(values: &[u64; 6]) -> Shape
-    ensures { λ s. ⌜ s ≡ Shape.Box (coordinate (getD (now (values .entry)) 2 0)) (coordinate (getD (now (values .entry)) 3 0)) (coordinate (getD (now (values .entry)) 4 0)) (coordinate (getD (now (values .entry)) 5 0)) ⌝ }
+    ensures { λ s. ⌜ s ≡ Shape.Box (coordinateOf (getD (now (values .entry)) 2 0)) (coordinateOf (getD (now (values .entry)) 3 0)) (coordinateOf (getD (now (values .entry)) 4 0)) (coordinateOf (getD (now (values .entry)) 5 0)) ⌝ }
 {
     Shape::Box {
-        left: coordinate(values[2]),
-        bottom: coordinate(values[3]),
-        right: coordinate(values[4]),
-        top: coordinate(values[5]),
+        left: forms::coordinate(values[2]),
+        bottom: forms::coordinate(values[3]),
+        right: forms::coordinate(values[4]),
+        top: forms::coordinate(values[5]),
     }
 }

@@ -3,7 +3,7 @@ ghost use mathlib.Core.Path.{_≡_};
 ghost use mathlib.Core.List.{[]};
 ghost use Prim.Native.Nat.{_+_, _<_};
 ghost use lib.ListN.{length, set};
-ghost use Rattle.rule_text.specs.Reading.{ruleRead, readLine, refusalOf, slot, readLines, listOf, prefixOf, loadedOf};
+ghost use Rattle.rule_text.specs.Reading.{ruleRead, readLine, numberIn, slot, readLines, listOf, prefixOf, readRules};
 use crate::lines;
 use crate::lines::FORM_COUNT;
 use crate::lines::FORMS;
@@ -12,13 +12,13 @@ use rules::RuleList;
 use rules::Slot;
 
 // A good line: its rule, and how many bytes it has.
-pub struct Entry {
+pub struct Parsed {
     pub rule: Rule,
     pub length: usize,
 }
 
 pub enum LineRead {
-    Good(Entry),
+    Good(Parsed),
     Bad(u64),
 }
 
@@ -67,12 +67,12 @@ fn rule_read(rule: Rule, length: usize) -> LineRead
     if !rule.is_sound() {
         return LineRead::Bad(14);
     }
-    LineRead::Good(Entry { rule, length })
+    LineRead::Good(Parsed { rule, length })
 }
 
 // The number of a refused line, 0 of a good one.
-fn refusal(answer: LineRead) -> u64
-    ensures { λ r. ⌜ r ≡ refusalOf answer ⌝ }
+fn number_in(answer: LineRead) -> u64
+    ensures { λ r. ⌜ r ≡ numberIn answer ⌝ }
 {
     match answer {
         LineRead::Good(_) => 0,
@@ -116,17 +116,17 @@ pub fn read_prefix(text: &[u8]) -> Prefix
     let mut line: usize = 1;
     while 0 < rest.len() {
         let answer = read_line(rest, line as u64);
-        let LineRead::Good(entry) = answer else {
+        let LineRead::Good(parsed) = answer else {
             return Prefix {
                 list,
                 length,
-                number: refusal(answer),
+                number: number_in(answer),
                 line,
             };
         };
-        let rule = entry.rule;
+        let rule = parsed.rule;
         list = with_rule(list, rule);
-        let end = entry.length;
+        let end = parsed.length;
         rest = &rest[end..];
         length += end;
         line += 1;
@@ -141,7 +141,7 @@ pub fn read_prefix(text: &[u8]) -> Prefix
 
 // Reads a whole text as a rule list: all of it, or the first bad line and nothing.
 pub fn read_rules(text: &[u8]) -> LoadedRules
-    ensures { λ r. ⌜ r ≡ loadedOf (readLines (now (text .entry))) ⌝ }
+    ensures { λ r. ⌜ r ≡ readRules (now (text .entry)) ⌝ }
 {
     let prefix = read_prefix(text);
     if prefix.number != 0 {

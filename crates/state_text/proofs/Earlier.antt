@@ -16,7 +16,7 @@ use Rattle.enforcement.proofs.Kept.{same-everywhere}
 use Rattle.rules.specs.declared.sessions.Session.{Session}
 use Rattle.state_text.specs.Entries.{rank, inOrder, withLine, rests}
 use Rattle.state_text.specs.Saving.{over, linesOf}
-use Rattle.state_text.specs.Causes.{Ranged, Disordered, Lacks, EachGood, after}
+use Rattle.state_text.specs.Causes.{Ranged, Disordered, Lacks, EachGood, stateAfter}
 use Rattle.state_text.specs.declared.entries.Entry.{Entry}
 use Rattle.state_text.specs.declared.entries.Entry.the-variants.{Now, Assigned, Granted, Open, Place, Active, Did}
 use Rattle.state_text.proofs.Rows.{by-test, over-zero, over-suc}
@@ -115,11 +115,11 @@ fresh-lacks (Active i r) h = (λ q u m k. List·Memᴰ·not-nil m, λ n. rw (fre
 fresh-lacks (Did o p u) h = (λ q. clash refl q, λ q. absurd q)
 
 -- a line lacks what it rests on exactly where no good line before it gives that
-pub lacks-means : (es : List Entry) → GoodLines 0 fresh es → (e : Entry) → Ranged e → (rests (after fresh es) e ≡ false) ↔ Lacks es e
+pub lacks-means : (es : List Entry) → GoodLines 0 fresh es → (e : Entry) → Ranged e → (rests (stateAfter fresh es) e ≡ false) ↔ Lacks es e
 lacks-means [] good e h = fresh-lacks e h
 lacks-means (x ∷ es) good e h =
     let left = good-left x es good in
-    subst (λ (l : List Entry). (rests (after fresh (x ∷ es)) e ≡ false) ↔ Lacks l e) (left .lines) (lacks-lines (after fresh (x ∷ es)) (left .kept) e h)
+    subst (λ (l : List Entry). (rests (stateAfter fresh (x ∷ es)) e ≡ false) ↔ Lacks l e) (left .lines) (lacks-lines (stateAfter fresh (x ∷ es)) (left .kept) e h)
 
 -- ---- the order
 
@@ -163,14 +163,14 @@ order-means (x ∷ es) good e =
 
 -- good lines, and a line after them
 split : (es : List Entry) (e : Entry) (later : List Entry) (k : ℕ) (s : State) → GoodLines k s (es ++ (e ∷ later))
-    → GoodLines k s es × Ranged e × (inOrder (nextRank k es) e ≡ true) × (rests (after s es) e ≡ true)
+    → GoodLines k s es × Ranged e × (inOrder (nextRank k es) e ≡ true) × (rests (stateAfter s es) e ≡ true)
 split [] e later k s good = (tt, good .0, good .1, good .2)
 split (x ∷ es) e later k s good =
     let t = split es e later (suc (rank x)) (withLine s x) (good .3) in
     ((good .0, good .1, good .2, t .0), t .1, t .2, t .3)
 
 -- one good line more
-more : (es : List Entry) (e : Entry) (k : ℕ) (s : State) → GoodLines k s es → Ranged e → inOrder (nextRank k es) e ≡ true → rests (after s es) e ≡ true → GoodLines k s (es ++ (e ∷ []))
+more : (es : List Entry) (e : Entry) (k : ℕ) (s : State) → GoodLines k s es → Ranged e → inOrder (nextRank k es) e ≡ true → rests (stateAfter s es) e ≡ true → GoodLines k s (es ++ (e ∷ []))
 more [] e k s good h o r = (h, o, r, tt)
 more (x ∷ es) e k s good h o r = (good .0, good .1, good .2, more es e (suc (rank x)) (withLine s x) (good .3) h o r)
 
@@ -178,7 +178,7 @@ next-more : (es : List Entry) (e : Entry) (k : ℕ) → nextRank k (es ++ (e ∷
 next-more [] e k = refl
 next-more (x ∷ es) e k = next-more es e (suc (rank x))
 
-after-more : (es : List Entry) (e : Entry) (s : State) → after s (es ++ (e ∷ [])) ≡ withLine (after s es) e
+after-more : (es : List Entry) (e : Entry) (s : State) → stateAfter s (es ++ (e ∷ [])) ≡ withLine (stateAfter s es) e
 after-more [] e s = refl
 after-more (x ∷ es) e s = after-more es e (withLine s x)
 
@@ -195,11 +195,11 @@ good-means es = (to, λ each. from [] es tt each)
           rested = λ l. clash (t .3) (lacks-means earlier (t .0) e (t .1) .1 l);
         }
 
-    from : (done es : List Entry) → GoodLines 0 fresh done → EachGood (done ++ es) → GoodLines (nextRank 0 done) (after fresh done) es
+    from : (done es : List Entry) → GoodLines 0 fresh done → EachGood (done ++ es) → GoodLines (nextRank 0 done) (stateAfter fresh done) es
     from done [] good each = tt
     from done (e ∷ es) good each =
         let this = each done e es refl in
         let o : inOrder (nextRank 0 done) e ≡ true = by-test (inOrder (nextRank 0 done) e) (λ q. q) (λ q. absurd (this .ordered (order-means done good e .0 q))) in
-        let r : rests (after fresh done) e ≡ true = by-test (rests (after fresh done) e) (λ q. q) (λ q. absurd (this .rested (lacks-means done good e (this .ranged) .0 q))) in
+        let r : rests (stateAfter fresh done) e ≡ true = by-test (rests (stateAfter fresh done) e) (λ q. q) (λ q. absurd (this .rested (lacks-means done good e (this .ranged) .0 q))) in
         let rest = from (done ++ (e ∷ [])) es (more done e 0 fresh good (this .ranged) o r) (subst⁻¹ EachGood (append-assoc done (e ∷ []) es) each) in
         (this .ranged, o, r, rw (← next-more done e 0, ← after-more done e fresh) rest)

@@ -25,7 +25,7 @@ use Rattle.enforcement.proofs.Frame.{closed-inactive}
 use Rattle.enforcement.proofs.Kept.{same-everywhere, fresh-accepted}
 use Rattle.state_text.specs.Entries.{rank, inOrder, withLine, rests}
 use Rattle.state_text.specs.Saving.{over, only, placeLines, linesOf}
-use Rattle.state_text.specs.Causes.{Ranged, after}
+use Rattle.state_text.specs.Causes.{Ranged, stateAfter}
 use Rattle.state_text.specs.declared.entries.Entry.{Entry}
 use Rattle.state_text.specs.declared.entries.Entry.the-variants.{Now, Assigned, Granted, Open, Place, Active, Did}
 use Rattle.state_text.proofs.Rows.{by-test, over-zero, over-suc, over-same, over-more, span, over-span, join, join-right, rows-none, row-of, below-or-past}
@@ -133,8 +133,8 @@ now-lines t h = line-same fresh (fresh-accepted .typed) (Now t) h
 
 -- it is kept, and its lines are those before and the good ones
 record Came (k : ℕ) (s : State) (es : List Entry) : Type 0 where
-  kept : Kept (after s es)
-  lines : over allLines (at (after s es)) ≡ over k (at s) ++ es
+  kept : Kept (stateAfter s es)
+  lines : over allLines (at (stateAfter s es)) ≡ over k (at s) ++ es
 
 good-came : (es : List Entry) (k : ℕ) (s : State) → Kept s → 1 ≤ k → k ≤ allLines → Ended k s → GoodLines k s es → Came k s es
 good-came [] k s kept one most ended good =
@@ -152,13 +152,13 @@ good-came (e ∷ es) k s kept one most ended good =
 
 -- from a fresh state
 pub record Left (es : List Entry) : Type 0 where
-  pub kept : Kept (after fresh es)
-  pub lines : linesOf (after fresh es) ≡ es
+  pub kept : Kept (stateAfter fresh es)
+  pub lines : linesOf (stateAfter fresh es) ≡ es
 
 now-left : (t : ℕ) (es : List Entry) → t ≤ 3155759999 → GoodLines 1 (withLine fresh (Now t)) es → Left (Now t ∷ es)
 now-left t es h good =
     let came = good-came es 1 (withLine fresh (Now t)) (now-kept t h) (omega arith) (omega arith) (now-ended t h) good in
-    record { kept = came .kept; lines = sym (lines-at (after fresh (Now t ∷ es))) ∙ came .lines ∙ rw (now-lines t h) }
+    record { kept = came .kept; lines = sym (lines-at (stateAfter fresh (Now t ∷ es))) ∙ came .lines ∙ rw (now-lines t h) }
 
 pub good-left : (e : Entry) (es : List Entry) → GoodLines 0 fresh (e ∷ es) → Left (e ∷ es)
 good-left e es good =
@@ -327,7 +327,7 @@ module _ (s : State) (kept : Kept s) where
   -- the lines es are good after t, and leave s
   record Back (next : ℕ) (t : State) (es : List Entry) : Type 0 where
     good : GoodLines next t es
-    same : after t es ≡ s
+    same : stateAfter t es ≡ s
 
   back-from : (m next k : ℕ) (t : State) → Begun k t → 1 ≤ next → next ≤ k → k + m ≡ allLines → Back next t (span k m (at s))
   unfolding span
@@ -364,7 +364,7 @@ module _ (s : State) (kept : Kept s) where
   unfolding rests
   rests-now = refl
 
-  pub lines-good : GoodLines 0 fresh (linesOf s) × (after fresh (linesOf s) ≡ s)
+  pub lines-good : GoodLines 0 fresh (linesOf s) × (stateAfter fresh (linesOf s) ≡ s)
   lines-good =
       let back = back-from 69696 1 1 (withLine fresh (Now (s .time))) begun (omega arith) (omega arith) (omega arith) in
       let t = time-accepted s (kept .accepted .unrefused) in

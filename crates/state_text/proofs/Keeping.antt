@@ -19,9 +19,10 @@ use Rattle.places.specs.declared.Position.{Position}
 use Rattle.places.specs.declared.Position.the-variants.{Unknown, Known}
 use Rattle.rules.specs.Families.{wordAt, hasRole, closedSession, sessionAt}
 use Rattle.rules.specs.declared.sessions.Session.{Session}
-use Rattle.selection.specs.declared.actions.Action.{Action}
-use Rattle.selection.specs.declared.actions.Action.the-variants as step
-use Rattle.enforcement.specs.States.{fresh, assignedRole, holdsRole, isOpen, userOf, positionOf, activeRole, isTime, isUnknown, sessionAccepted, stateAccepted}
+use Rattle.steps.specs.declared.actions.Action.{Action}
+use Rattle.steps.specs.declared.actions.Action.the-variants as step
+use Rattle.steps.specs.Steps.{isTime}
+use Rattle.enforcement.specs.States.{fresh, assignedRole, holdsRole, isOpen, userOf, positionOf, activeRole, isUnknown, sessionAccepted, stateAccepted}
 use Rattle.enforcement.specs.Steps.{passes, check, target, put, session, withSessions}
 use Rattle.enforcement.specs.Reached.{Typed, Accepted, Held}
 use Rattle.enforcement.specs.declared.states.State.{State}

@@ -17,7 +17,7 @@ use Rattle.places.specs.declared.Position.the-variants.{Unknown, Known}
 use Rattle.enforcement.specs.States.{assignedRole, carries, isOpen, userOf, positionOf, activeRole, did, stateAccepted}
 use Rattle.enforcement.specs.declared.states.State.{State}
 use Rattle.state_text.specs.Entries.{savedForms, formOf, valuesOf, lineText}
-use Rattle.state_text.specs.Saving.{over, only, placeLines, sessionLines, linesOf, textOf, savedText}
+use Rattle.state_text.specs.Saving.{over, only, placeLines, sessionLines, linesOf, linesText, savedText}
 use Rattle.state_text.specs.Causes.{Ranged}
 use Rattle.state_text.specs.declared.entries.Entry.{Entry}
 use Rattle.state_text.specs.declared.entries.Entry.the-variants.{Now, Assigned, Granted, Open, Place, Active, Did}
@@ -28,17 +28,17 @@ use Rattle.state_text.proofs.Keeping.{time-accepted, open-ranged, posit
 
 -- ---- the texts of lines one after the other
 
-pub text-append : (a b : List Entry) → textOf (a ++ b) ≡ textOf a ++ textOf b
-unfolding textOf
+pub text-append : (a b : List Entry) → linesText (a ++ b) ≡ linesText a ++ linesText b
+unfolding linesText
 text-append [] b = refl
-text-append (e ∷ a) b = ap (λ (t : List ℕ). lineText e ++ t) (text-append a b) ∙ sym (append-assoc (lineText e) (textOf a) (textOf b))
+text-append (e ∷ a) b = ap (λ (t : List ℕ). lineText e ++ t) (text-append a b) ∙ sym (append-assoc (lineText e) (linesText a) (linesText b))
 
-pub text-none : textOf [] ≡ []
-unfolding textOf
+pub text-none : linesText [] ≡ []
+unfolding linesText
 text-none = refl
 
-pub text-one : (e : Entry) → textOf (e ∷ []) ≡ lineText e
-unfolding textOf
+pub text-one : (e : Entry) → linesText (e ∷ []) ≡ lineText e
+unfolding linesText
 text-one e = append-nil (lineText e)
 
 -- ---- how long they are
@@ -54,34 +54,34 @@ form-length (suc (suc (suc (suc (suc zero))))) h = omega arith
 form-length (suc (suc (suc (suc (suc (suc zero)))))) h = omega arith
 form-length (suc (suc (suc (suc (suc (suc (suc k))))))) h = absurd (omega arith)
 
-line-length : (e : Entry) → Ranged e → length (textOf (e ∷ [])) ≤ 165
+line-length : (e : Entry) → Ranged e → length (linesText (e ∷ [])) ≤ 165
 unfolding lineText
 line-length e h =
     rw (text-one e) (omega (arith, fill-length (formAt savedForms (formOf e)) (valuesOf e) (line-fits e h), form-length (formOf e) (form-small e)))
 
-only-length : (b : Bool) (e : Entry) → (b ≡ true → Ranged e) → length (textOf (only b e)) ≤ 165
+only-length : (b : Bool) (e : Entry) → (b ≡ true → Ranged e) → length (linesText (only b e)) ≤ 165
 only-length true e h = line-length e (h refl)
 only-length false e h = rw text-none (omega arith)
 
-place-length : (i : ℕ) (p : Position) → i < 32 → positionInRange p ≡ true → length (textOf (placeLines i p)) ≤ 165
+place-length : (i : ℕ) (p : Position) → i < 32 → positionInRange p ≡ true → length (linesText (placeLines i p)) ≤ 165
 unfolding positionInRange pointInRange
 place-length i Unknown l h = rw text-none (omega arith)
 place-length i (Known point) l h =
     let g = both (onGrid (point .x)) (onGrid (point .y)) h in
     line-length (Place i (point .x) (point .y)) (l, g .0, g .1)
 
-over-length : (n w : ℕ) (f : ℕ → List Entry) → ((i : ℕ) → i < n → length (textOf (f i)) ≤ w) → length (textOf (over n f)) ≤ n * w
+over-length : (n w : ℕ) (f : ℕ → List Entry) → ((i : ℕ) → i < n → length (linesText (f i)) ≤ w) → length (linesText (over n f)) ≤ n * w
 over-length zero w f h = rw (over-zero f, text-none) (omega arith)
 over-length (suc n) w f h =
     let a = over-length n w f (λ i l. h i (omega arith)) in
     let b = h n (omega arith) in
     rw (over-suc n f, text-append (over n f) (f n), length-append) (omega (arith, suc-mul n w, a, b))
 
-joined-length : (a b : List Entry) (m n : ℕ) → length (textOf a) ≤ m → length (textOf b) ≤ n → length (textOf (a ++ b)) ≤ m + n
+joined-length : (a b : List Entry) (m n : ℕ) → length (linesText a) ≤ m → length (linesText b) ≤ n → length (linesText (a ++ b)) ≤ m + n
 joined-length a b m n ha hb = rw (text-append a b, length-append) (omega arith)
 
 module _ (s : State) (accepted : stateAccepted s ≡ true) where
-  session-length : (i : ℕ) → i < 32 → length (textOf (sessionLines s i)) ≤ 165 + (165 + 32 * 165)
+  session-length : (i : ℕ) → i < 32 → length (linesText (sessionLines s i)) ≤ 165 + (165 + 32 * 165)
   unfolding sessionLines
   session-length i h =
       joined-length _ _ 165 (165 + 32 * 165)

@@ -7,10 +7,13 @@ pub mod GoodLines
 pub mod Earlier
 pub mod LineTexts
 pub mod Refusals
-pub mod Lowest
+pub mod LowestRule
 pub mod OwnCauses
 pub mod RoundTrips
 pub mod Lengths
 pub mod Writes
 pub mod Loads
 pub mod WritingCauses
+pub mod Copies
+pub mod Words
+pub mod Order

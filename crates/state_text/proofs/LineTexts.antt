@@ -4,13 +4,12 @@ use mathlib.Core.Path.{_≡_, refl, sym, ap, _∙_}
 use mathlib.Core.Bool.{Bool, true, false, cond}
 use mathlib.Core.Logic.{_⊎_, inl, inr}
 use mathlib.Core.List.{List, _++_}
-use Prim.Native.Nat.{ℕ, zero, suc, _≤_, _<_}
+use Prim.Native.Nat.{ℕ, _≤_, _<_}
 use native.Mathlib.Omega.{arith}
 use lib.Dec.{ltb}
 use lib.ListN.{length, drop, replicate}
 use lib.Seq.{sets}
 use borrow.Author.Tests.{ltb-true, ltb-false, lt-ltb, le-ltb}
-use Rattle.forms.specs.Kinds.{kindOf, lookup, isSlot, inRangeBy, inRange}
 use Rattle.forms.specs.Forms.{fill, allInRange, valuesIn, valuesFit}
 use Rattle.forms.specs.Tables.{linesIn, formAt, found}
 use Rattle.forms.specs.declared.tables.Found.{Found}
@@ -23,6 +22,7 @@ use Rattle.state_text.specs.declared.reading.LineRead.the-variants.{Good
 use Rattle.state_text.specs.declared.reading.Parsed.{Parsed}
 use Rattle.forms.proofs.Finding.{Hits, found-hits, found-written, found-none}
 use Rattle.forms.proofs.Marks.{range-fits}
+use Rattle.state_text.proofs.Same.{unequal}
 use Rattle.state_text.proofs.Values.{forms-distinct, seven-forms, form-small, ranged-values, values-back, entry-back, values-say}
 
 below-all : (k : ℕ) → k < 7 → k < length (linesIn savedForms)
@@ -30,28 +30,11 @@ below-all k h = omega (arith, seven-forms)
 
 -- ---- a form with values that a text can hold is found
 
--- the values that are read back are in range where those written are
-same-range : (k : ℕ) (v : List ℕ) → k < 7 → allInRange (formAt savedForms k) (sets (replicate 6 0) 0 (valuesIn (formAt savedForms k) v)) ≡ allInRange (formAt savedForms k) v
-unfolding formAt linesIn savedForms allInRange valuesIn isSlot inRange inRangeBy kindOf lookup
-same-range zero v h = refl
-same-range (suc zero) v h = refl
-same-range (suc (suc zero)) v h = refl
-same-range (suc (suc (suc zero))) v h = refl
-same-range (suc (suc (suc (suc zero)))) v h = refl
-same-range (suc (suc (suc (suc (suc zero))))) v h = refl
-same-range (suc (suc (suc (suc (suc (suc zero)))))) v h = refl
-same-range (suc (suc (suc (suc (suc (suc (suc k))))))) v h = absurd (omega arith)
-
 module _ (k : ℕ) (v more : List ℕ) (l : k < 7) (fit : valuesFit (formAt savedForms k) v ≡ true) where
   form-found : readLine (fill (formAt savedForms k) v ++ more) ≡
       lineAfter (record { form = k; values = sets (replicate 6 0) 0 (valuesIn (formAt savedForms k) v); length = length (fill (formAt savedForms k) v) })
   unfolding readLine
   form-found = ap lineAfter (found-written savedForms k v more forms-distinct (below-all k l) fit)
-
-  -- with a number outside its range it is 11
-  pub read-outside : allInRange (formAt savedForms k) v ≡ false → readLine (fill (formAt savedForms k) v ++ more) ≡ Bad 11
-  unfolding lineAfter
-  read-outside out = form-found ∙ rw (lt-ltb k 7 l, same-range k v l, out)
 
 pub line-fits : (e : Entry) → Ranged e → valuesFit (formAt savedForms (formOf e)) (valuesOf e) ≡ true
 line-fits e h = range-fits (formAt savedForms (formOf e)) (valuesOf e) (ranged-values e h)
@@ -61,6 +44,21 @@ unfolding lineText lineAfter
 read-line e more h =
     form-found (formOf e) (valuesOf e) more (form-small e) (line-fits e h)
     ∙ rw (values-back e, lt-ltb (formOf e) 7 (form-small e), ranged-values e h, entry-back e h)
+
+-- ---- as the code reads a line
+
+module _ (text : List ℕ) (f : Found) (e : f ≡ found savedForms text) where
+  pub line-none : 7 ≤ f .form → Bad 10 ≡ readLine text
+  unfolding readLine lineAfter
+  line-none h = rw (← e, le-ltb (f .form) 7 h)
+
+  pub line-outside : f .form < 7 → allInRange (formAt savedForms (f .form)) (f .values) ≡ false → Bad 11 ≡ readLine text
+  unfolding readLine lineAfter
+  line-outside h q = rw (← e, lt-ltb (f .form) 7 h, q)
+
+  pub line-good : f .form < 7 → allInRange (formAt savedForms (f .form)) (f .values) ≡ true → (x : Entry) → x ≡ entryOf (f .form) (f .values) → Good (record { entry = x; length = f .length }) ≡ readLine text
+  unfolding readLine lineAfter
+  line-good h q x g = rw (← e, lt-ltb (f .form) 7 h, q, g)
 
 -- ---- what is read stands there
 
@@ -76,6 +74,9 @@ pub record GoodLine (text : List ℕ) (p : Parsed) : Type 0 where
 abbrev pub Answers : List ℕ → LineRead → Type 0
 Answers text (Good p) = GoodLine text p
 Answers text (Bad number) = ((number ≡ 10) × NoFormAt text) ⊎ ((number ≡ 11) × OutOfRange text)
+
+good-or-bad : {number : ℕ} {p : Parsed} → Bad number ≡ Good p → ⊥
+good-or-bad h = unequal cc
 
 found-answers : (text : List ℕ) (f : Found) → f ≡ found savedForms text → Hits savedForms text f → (x : Bool) → ltb (f .form) 7 ≡ x → (y : Bool) → allInRange (formAt savedForms (f .form)) (f .values) ≡ y →
     Answers text (cond x (cond y (Good (record { entry = entryOf (f .form) (f .values); length = f .length })) (Bad 11)) (Bad 10))
@@ -100,7 +101,7 @@ found-answers text f e hits true p false q =
         isForm = l;
         canStand = hits .fit (below-all (f .form) l);
         isLine = hits .text (below-all (f .form) l);
-        outside = q;
+        outside = λ entry later ranged whole. good-or-bad (line-outside text f e l q ∙ ap readLine whole ∙ read-line entry later ranged);
       },
     )
 
@@ -120,17 +121,11 @@ read-none text none = go (readLine text) (read-answers text)
     go (Bad number) (inl h) = ap Bad (h .0)
     go (Bad number) (inr h) = absurd (none (h .1 .form) (h .1 .values) (h .1 .more) (h .1 .isForm) (h .1 .canStand) (h .1 .isLine))
 
--- ---- as the code reads a line
-
-module _ (text : List ℕ) (f : Found) (e : f ≡ found savedForms text) where
-  pub line-none : 7 ≤ f .form → Bad 10 ≡ readLine text
-  unfolding readLine lineAfter
-  line-none h = rw (← e, le-ltb (f .form) 7 h)
-
-  pub line-outside : f .form < 7 → allInRange (formAt savedForms (f .form)) (f .values) ≡ false → Bad 11 ≡ readLine text
-  unfolding readLine lineAfter
-  line-outside h q = rw (← e, lt-ltb (f .form) 7 h, q)
-
-  pub line-good : f .form < 7 → allInRange (formAt savedForms (f .form)) (f .values) ≡ true → (x : Entry) → x ≡ entryOf (f .form) (f .values) → Good (record { entry = x; length = f .length }) ≡ readLine text
-  unfolding readLine lineAfter
-  line-good h q x g = rw (← e, lt-ltb (f .form) 7 h, q, g)
+-- with a number outside its range it is 11
+pub read-outside : (text : List ℕ) → OutOfRange text → readLine text ≡ Bad 11
+read-outside text h = go (readLine text) (read-answers text)
+  where
+    go : (a : LineRead) → Answers text a → a ≡ Bad 11
+    go (Good p) good = absurd (h .outside (p .entry) (drop (p .length) text) (good .ranged) (good .isLine))
+    go (Bad number) (inl none) = absurd (none .1 (h .form) (h .values) (h .more) (h .isForm) (h .canStand) (h .isLine))
+    go (Bad number) (inr outside) = ap Bad (outside .0)

@@ -10,15 +10,15 @@ use lib.ListN.{length, take, drop, length-append}
 use Rattle.forms.proofs.Turns.{rest}
 use Rattle.rules.specs.Acceptance.{rulesOf, listAccepted}
 use Rattle.rules.specs.declared.lists.RuleList.{RuleList}
-use Rattle.selection.specs.Lowest.{Lowest, unbroken, broken, lowest}
+use Rattle.steps.specs.declared.lowest.Lowest.{Lowest}
+use Rattle.steps.specs.declared.lowest.Lowest.the-variants.{Unbroken, BrokenAt}
+use Rattle.steps.specs.Lowest.{lowest}
 use Rattle.enforcement.specs.States.{fresh, ruleHolds}
 use Rattle.enforcement.specs.declared.states.State.{State}
 use Rattle.state_text.specs.Entries.{lineText, rank, follows, inOrder, withLine, rests}
-use Rattle.state_text.specs.Reading.{readLine, entryIn, lengthIn, Loading, loaded, refused, verdict, readFrom, readLines, unlessBroken, underRules, readState, loadedOf}
+use Rattle.state_text.specs.Reading.{readLine, entryIn, lengthIn, Loading, loaded, refused, lineVerdict, readFrom, readLines, unlessBroken, underRules, readState, loadedOf}
 use Rattle.state_text.specs.Causes.{Ranged}
-use Rattle.state_text.specs.Parts.{lowestOf, checkLine, numberIn}
-use Rattle.state_text.specs.declared.judging.LowestBroken.{LowestBroken}
-use Rattle.state_text.specs.declared.judging.LowestBroken.the-variants.{Nothing, Rule}
+use Rattle.state_text.specs.Parts.{checkLine, numberIn}
 use Rattle.state_text.specs.declared.reading.LineRead.{LineRead}
 use Rattle.state_text.specs.declared.reading.LineRead.the-variants.{Good, Bad}
 use Rattle.state_text.specs.declared.reading.LoadedState.{LoadedState}
@@ -27,21 +27,18 @@ use Rattle.state_text.proofs.Values.{line-some}
 use Rattle.state_text.proofs.LineTexts.{GoodLine, Answers, read-answers}
 use Rattle.state_text.proofs.Refusals.{read-step, read-end, read-whole}
 use Rattle.state_text.proofs.GoodLines.{rank-small}
-use Rattle.state_text.proofs.OwnCauses.{lines-number}
+use Rattle.state_text.proofs.OwnCauses.{lines-number, state-result}
 use Rattle.state_text.proofs.Same.{unequal}
-
-abbrev pub refusedAs : ℕ → ℕ → LoadedState
-refusedAs number place = record { number = number; place = place; state = fresh }
 
 -- ---- a line that was checked
 
 -- what follows a line, by its check
-checked : (n next : ℕ) (s : State) (a : LineRead) (later : Loading) → verdict n next s a later ≡ verdict n next s (checkLine next s a) later
+checked : (n next : ℕ) (s : State) (a : LineRead) (later : Loading) → lineVerdict n next s a later ≡ lineVerdict n next s (checkLine next s a) later
 checked n next s (Bad number) later = refl
 checked n next s (Good p) later = go (inOrder next (p .entry)) refl (rests s (p .entry)) refl
   where
     go : (x : Bool) → inOrder next (p .entry) ≡ x → (y : Bool) → rests s (p .entry) ≡ y →
-        cond x (cond y later (refused 16 n)) (refused 15 n) ≡ verdict n next s (cond x (cond y (Good p) (Bad 16)) (Bad 15)) later
+        cond x (cond y later (refused 16 n)) (refused 15 n) ≡ lineVerdict n next s (cond x (cond y (Good p) (Bad 16)) (Bad 15)) later
     go true e true f = rw (e, f)
     go true e false f = refl
     go false e y f = refl
@@ -87,13 +84,13 @@ check-ranged t a e p g = let good : GoodLine t p = subst (Answers t) (sym e ∙ 
 
 -- ---- the loop
 
-pub record Left (text : List ℕ) (s : State) (t : List ℕ) (n next : ℕ) : Type 0 where
+pub record Unread (text : List ℕ) (s : State) (t : List ℕ) (n next : ℕ) : Type 0 where
   pub bound : ℕ
   pub enough : length t ≤ bound
   pub lines : n + length t ≤ length text + 1
   pub same : readLines text ≡ readFrom bound n next s t
 
-pub start : (text : List ℕ) (s : State) → 0 < length text → s ≡ fresh → Left text s text 1 0
+pub start : (text : List ℕ) (s : State) → 0 < length text → s ≡ fresh → Unread text s text 1 0
 start text s h e = record {
   bound = length text;
   enough = omega arith;
@@ -101,12 +98,12 @@ start text s h e = record {
   same = read-whole text h ∙ rw e;
 }
 
-pub none : (text : List ℕ) (x : LoadedState) → length text ≡ 0 → x ≡ refusedAs 10 1 → x ≡ loadedOf (readLines text)
+pub none : (text : List ℕ) (x : LoadedState) → length text ≡ 0 → x ≡ loadedOf (refused 10 1) → x ≡ loadedOf (readLines text)
 unfolding readLines
 none [] x h e = e
 none (c ∷ t) x h e = absurd (omega arith)
 
-module _ (text : List ℕ) (s : State) (t : List ℕ) (n next : ℕ) (left : Left text s t n next) where
+module _ (text : List ℕ) (s : State) (t : List ℕ) (n next : ℕ) (left : Unread text s t n next) where
   pub end : length t ≤ 0 → record { number = 0; place = 0; state = s } ≡ loadedOf (readLines text)
   end h = sym (ap loadedOf (left .same ∙ empty t h))
     where
@@ -118,13 +115,13 @@ module _ (text : List ℕ) (s : State) (t : List ℕ) (n next : ℕ) (left : Lef
     abbrev later : Loading
     later = readFrom (left .bound - 1) (suc n) (suc (rank (entryIn (readLine t)))) (withLine s (entryIn (readLine t))) (drop (lengthIn (readLine t)) t)
 
-    here : readLines text ≡ verdict n next s a later
+    here : readLines text ≡ lineVerdict n next s a later
     here =
         let z : left .bound ≡ suc (left .bound - 1) = omega (arith, left .enough) in
         left .same ∙ ap (λ (f : ℕ). readFrom f n next s t) z ∙ read-step (left .bound - 1) n next s t h
-        ∙ checked n next s (readLine t) later ∙ ap (λ (x : LineRead). verdict n next s x later) (sym e)
+        ∙ checked n next s (readLine t) later ∙ ap (λ (x : LineRead). lineVerdict n next s x later) (sym e)
 
-    pub bad-line : (b : ℕ) → a ≡ Bad b → (c : ℕ) → c ≡ numberIn a → (x : LoadedState) → x ≡ refusedAs c n → x ≡ loadedOf (readLines text)
+    pub bad-line : (b : ℕ) → a ≡ Bad b → (c : ℕ) → c ≡ numberIn a → (x : LoadedState) → x ≡ loadedOf (refused c n) → x ≡ loadedOf (readLines text)
     bad-line b g c q x w = w ∙ rw (q, here, g)
 
     module _ (p : Parsed) (g : a ≡ Good p) where
@@ -149,7 +146,7 @@ module _ (text : List ℕ) (s : State) (t : List ℕ) (n next : ℕ) (left : Lef
       pub less : length (take (length t - p .length) (drop (p .length) t)) < length t
       less = rw (rest t (p .length)) (omega (arith, shorter))
 
-      turned : (r : ℕ) → r ≡ rank (p .entry) → (s′ : State) → s′ ≡ withLine s (p .entry) → Left text s′ (drop (p .length) t) (n + 1) (r + 1)
+      turned : (r : ℕ) → r ≡ rank (p .entry) → (s′ : State) → s′ ≡ withLine s (p .entry) → Unread text s′ (drop (p .length) t) (n + 1) (r + 1)
       turned r q s′ w = record {
         bound = left .bound - 1;
         enough = omega (arith, shorter, left .enough);
@@ -157,19 +154,15 @@ module _ (text : List ℕ) (s : State) (t : List ℕ) (n next : ℕ) (left : Lef
         same = here ∙ rw (g, here-passed .ordered, here-passed .rested, here-passed .isRead, w, q, add-one, add-one);
       }
 
-      pub turn : (r : ℕ) → r ≡ rank (p .entry) → (s′ : State) → s′ ≡ withLine s (p .entry) → Left text s′ (take (length t - p .length) (drop (p .length) t)) (n + 1) (r + 1)
-      turn r q s′ w = subst⁻¹ (λ (l : List ℕ). Left text s′ l (n + 1) (r + 1)) (rest t (p .length)) (turned r q s′ w)
+      pub turn : (r : ℕ) → r ≡ rank (p .entry) → (s′ : State) → s′ ≡ withLine s (p .entry) → Unread text s′ (take (length t - p .length) (drop (p .length) t)) (n + 1) (r + 1)
+      turn r q s′ w = subst⁻¹ (λ (l : List ℕ). Unread text s′ l (n + 1) (r + 1)) (rest t (p .length)) (turned r q s′ w)
 
 -- ---- and then the rules
 
 module _ (list : RuleList) (text : List ℕ) (listed : listAccepted list ≡ true) where
-  whole : readState list text ≡ underRules list (readLines text)
-  unfolding readState
-  whole = rw listed
-
   -- a refusal of the lines
   pub lines-bad : (x : LoadedState) → x ≡ loadedOf (readLines text) → (x .number ≡ 0 → ⊥) → x ≡ loadedOf (readState list text)
-  lines-bad x e h = e ∙ go (readLines text) e ∙ sym (ap loadedOf whole)
+  lines-bad x e h = e ∙ go (readLines text) e ∙ sym (ap loadedOf (state-result list text listed))
     where
       go : (r : Loading) → x ≡ loadedOf r → loadedOf r ≡ loadedOf (underRules list r)
       go (loaded s) q = absurd (h (ap (λ (y : LoadedState). y .number) q))
@@ -185,28 +178,28 @@ module _ (list : RuleList) (text : List ℕ) (listed : listAccepted list ≡ tru
           let z : number ≡ 0 = sym (ap (λ (y : LoadedState). y .number) q) ∙ h in
           absurd (omega (arith, lines-number text number place p))
 
-  pub lines-good : (x : LoadedState) → x ≡ loadedOf (readLines text) → x .number ≡ 0 → loadedOf (unlessBroken (x .state) (lowest (λ rule. ruleHolds rule (x .state)) 1 (rulesOf list))) ≡ loadedOf (readState list text)
-  lines-good x e h = ap loadedOf (sym (whole ∙ ap (underRules list) (is-loaded x e h)))
+  pub lines-loaded : (x : LoadedState) → x ≡ loadedOf (readLines text) → x .number ≡ 0 → loadedOf (unlessBroken (x .state) (lowest (λ rule. ruleHolds rule (x .state)) 1 (rulesOf list))) ≡ loadedOf (readState list text)
+  lines-loaded x e h = ap loadedOf (sym (state-result list text listed ∙ ap (underRules list) (is-loaded x e h)))
 
   good-same : (x : LoadedState) → x ≡ loadedOf (readLines text) → x .number ≡ 0 → x ≡ loadedOf (loaded (x .state))
   good-same x e h = e ∙ ap loadedOf (is-loaded x e h)
 
   -- no rule is broken
-  pub none-broken : (x : LoadedState) → x ≡ loadedOf (readLines text) → x .number ≡ 0 → (low : LowestBroken) → low ≡ lowestOf (lowest (λ rule. ruleHolds rule (x .state)) 1 (rulesOf list)) → low ≡ Nothing → x ≡ loadedOf (readState list text)
-  none-broken x e h low l n = good-same x e h ∙ go (lowest (λ rule. ruleHolds rule (x .state)) 1 (rulesOf list)) (sym l ∙ n) ∙ lines-good x e h
+  pub none-broken : (x : LoadedState) → x ≡ loadedOf (readLines text) → x .number ≡ 0 → (low : Lowest) → low ≡ lowest (λ rule. ruleHolds rule (x .state)) 1 (rulesOf list) → low ≡ Unbroken → x ≡ loadedOf (readState list text)
+  none-broken x e h low l n = good-same x e h ∙ go (lowest (λ rule. ruleHolds rule (x .state)) 1 (rulesOf list)) (sym l ∙ n) ∙ lines-loaded x e h
     where
-      go : (w : Lowest) → lowestOf w ≡ Nothing → loadedOf (loaded (x .state)) ≡ loadedOf (unlessBroken (x .state) w)
-      go unbroken q = refl
-      go (broken k) q = unequal cc
+      go : (w : Lowest) → w ≡ Unbroken → loadedOf (loaded (x .state)) ≡ loadedOf (unlessBroken (x .state) w)
+      go Unbroken q = refl
+      go (BrokenAt k) q = unequal cc
 
   -- a rule is broken
-  pub one-broken : (x : LoadedState) → x ≡ loadedOf (readLines text) → x .number ≡ 0 → (low : LowestBroken) → low ≡ lowestOf (lowest (λ rule. ruleHolds rule (x .state)) 1 (rulesOf list)) → (k : ℕ) → low ≡ Rule k → refusedAs 17 k ≡ loadedOf (readState list text)
-  one-broken x e h low l k n = go (lowest (λ rule. ruleHolds rule (x .state)) 1 (rulesOf list)) (sym l ∙ n) ∙ lines-good x e h
+  pub one-broken : (x : LoadedState) → x ≡ loadedOf (readLines text) → x .number ≡ 0 → (low : Lowest) → low ≡ lowest (λ rule. ruleHolds rule (x .state)) 1 (rulesOf list) → (k : ℕ) → low ≡ BrokenAt k → loadedOf (refused 17 k) ≡ loadedOf (readState list text)
+  one-broken x e h low l k n = go (lowest (λ rule. ruleHolds rule (x .state)) 1 (rulesOf list)) (sym l ∙ n) ∙ lines-loaded x e h
     where
-      go : (w : Lowest) → lowestOf w ≡ Rule k → refusedAs 17 k ≡ loadedOf (unlessBroken (x .state) w)
-      go unbroken q = unequal cc
-      go (broken j) q = let same : k ≡ j = cc in rw same
+      go : (w : Lowest) → w ≡ BrokenAt k → loadedOf (refused 17 k) ≡ loadedOf (unlessBroken (x .state) w)
+      go Unbroken q = unequal cc
+      go (BrokenAt j) q = let same : k ≡ j = cc in rw same
 
-pub unlisted : (list : RuleList) (text : List ℕ) → listAccepted list ≡ false → refusedAs 40 0 ≡ loadedOf (readState list text)
+pub unlisted : (list : RuleList) (text : List ℕ) → listAccepted list ≡ false → loadedOf (refused 40 0) ≡ loadedOf (readState list text)
 unfolding readState
 unlisted list text e = rw e

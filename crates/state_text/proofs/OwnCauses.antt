@@ -4,7 +4,7 @@
 use mathlib.Core.Path.{_≡_, refl, sym, ap, _∙_, subst}
 use mathlib.Core.Bool.{Bool, true, false, cond}
 use mathlib.Core.Logic.{_↔_, _⊎_, inl, inr, ⊎-elim}
-use mathlib.Core.List.{List, [], _∷_, _++_}
+use mathlib.Core.List.{List, [], _∷_, _++_, List·Memᴰ, List·Memᴰ·head, List·Memᴰ·tail, List·Memᴰ·not-nil}
 use Prim.Native.Nat.{ℕ, suc, _≤_, _<_}
 use native.Mathlib.Omega.{arith}
 use lib.ListN.{length, getD, length-append}
@@ -12,7 +12,9 @@ use Rattle.sets.proofs.Booleans.{clash}
 use Rattle.rules.specs.Acceptance.{rulesOf, listAccepted}
 use Rattle.rules.specs.declared.families.Rule.{Rule}
 use Rattle.rules.specs.declared.lists.RuleList.{RuleList}
-use Rattle.selection.specs.Lowest.{Lowest, unbroken, broken, lowest}
+use Rattle.steps.specs.declared.lowest.Lowest.{Lowest}
+use Rattle.steps.specs.declared.lowest.Lowest.the-variants.{Unbroken, BrokenAt}
+use Rattle.steps.specs.Lowest.{lowest}
 use Rattle.enforcement.specs.States.{fresh, ruleHolds}
 use Rattle.enforcement.specs.Plain.{obeys}
 use Rattle.enforcement.specs.declared.states.State.{State}
@@ -21,9 +23,9 @@ use Rattle.enforcement.proofs.Causes.{lowest-means}
 use Rattle.forms.specs.Forms.{fill}
 use Rattle.forms.specs.Tables.{formAt}
 use Rattle.state_text.specs.Entries.{savedForms, lineText, inOrder}
-use Rattle.state_text.specs.Saving.{textOf}
-use Rattle.state_text.specs.Reading.{Loading, loaded, refused, unlessBroken, underRules, readLines, readState}
-use Rattle.state_text.specs.Causes.{after, NoForm, OutOfRange, OutOfOrder, Unrested, BadLine, GoodText}
+use Rattle.state_text.specs.Saving.{linesText}
+use Rattle.state_text.specs.Reading.{Loading, loaded, refused, unlessBroken, underRules, readLines, readState, loadedOf}
+use Rattle.state_text.specs.Causes.{stateAfter, NoForm, OutOfRange, OutOfOrder, Unrested, BadLine, GoodText}
 use Rattle.state_text.specs.declared.entries.Entry.{Entry}
 use Rattle.state_text.proofs.Values.{form-some, line-some}
 use Rattle.state_text.proofs.Same.{unequal}
@@ -31,7 +33,7 @@ use Rattle.state_text.proofs.Rows.{by-test}
 use Rattle.state_text.proofs.LineTexts.{NoFormAt}
 use Rattle.state_text.proofs.GoodLines.{nextRank, GoodLines}
 use Rattle.state_text.proofs.Earlier.{lacks-means, order-means, good-means}
-use Rattle.state_text.proofs.Lowest.{every-unbroken}
+use Rattle.state_text.proofs.LowestRule.{every-unbroken, lowest-from}
 use Rattle.state_text.proofs.Refusals.{read-whole, LineCause, noForm, outOfRange, outOfOrder, unrested, AllGood, OneBad, Comes, from-comes, comes-from}
 
 -- ---- all lines
@@ -45,7 +47,7 @@ comes-lines text r some c = read-whole text some ∙ comes-from r (length text) 
 -- a line with a cause, that is there or is the first one
 record Caused (number : ℕ) (earlier : List Entry) (rest : List ℕ) : Type 0 where
   isThere : (earlier ≡ []) ⊎ (0 < length rest)
-  cause : LineCause (nextRank 0 earlier) (after fresh earlier) rest number
+  cause : LineCause (nextRank 0 earlier) (stateAfter fresh earlier) rest number
 
 -- where no text is left only 10 can be said
 cause-some : (next : ℕ) (s : State) (rest : List ℕ) (number : ℕ) → LineCause next s rest number → (number ≡ 10) ⊎ (0 < length rest)
@@ -57,14 +59,14 @@ cause-some next s rest number (outOfOrder e h) =
 cause-some next s rest number (unrested e h) =
     inr (omega (arith, ap length (h .isLine), length-append (lineText (h .entry)) (h .more), line-some (h .entry)))
 
-no-lines : (es : List Entry) → length (textOf es) ≡ 0 → length es ≡ 0
-unfolding textOf
+no-lines : (es : List Entry) → length (linesText es) ≡ 0 → length es ≡ 0
+unfolding linesText
 no-lines [] h = refl
-no-lines (e ∷ es) h = absurd (omega (arith, length-append (lineText e) (textOf es), line-some e))
+no-lines (e ∷ es) h = absurd (omega (arith, length-append (lineText e) (linesText es), line-some e))
 
 -- the first refusal of a text's lines, by its number and its line
 lines-refused : (text : List ℕ) (number place : ℕ) → (readLines text ≡ refused number place) ↔ BadLine (Caused number) text place
-unfolding readLines textOf
+unfolding readLines linesText
 lines-refused [] number place = (to, from)
   where
     to : refused 10 1 ≡ refused number place → BadLine (Caused number) [] place
@@ -86,7 +88,7 @@ lines-refused [] number place = (to, from)
     from : BadLine (Caused number) [] place → refused 10 1 ≡ refused number place
     from b =
         let l = ap length (b .whole) in
-        let m = length-append (textOf (b .earlier)) (b .rest) in
+        let m = length-append (linesText (b .earlier)) (b .rest) in
         let none = no-lines (b .earlier) (omega (arith, l, m)) in
         let n : number ≡ 10 = ⊎-elim (λ e. e) (λ k. absurd (omega (arith, l, m, k))) (cause-some _ _ (b .rest) number (b .bad .cause)) in
         let p : place ≡ 1 = omega (arith, b .place, none) in
@@ -102,7 +104,7 @@ lines-refused (c ∷ t) number place = (to, from)
         record { earlier = bad .earlier; rest = bad .rest; whole = bad .whole; good = good-means (bad .earlier) .0 (bad .good); place = bad .here; bad = record { isThere = inr (bad .more); cause = bad .cause } }
 
     -- before the first line stands nothing
-    there : (earlier : List Entry) (rest : List ℕ) → c ∷ t ≡ textOf earlier ++ rest → (earlier ≡ []) ⊎ (0 < length rest) → 0 < length rest
+    there : (earlier : List Entry) (rest : List ℕ) → c ∷ t ≡ linesText earlier ++ rest → (earlier ≡ []) ⊎ (0 < length rest) → 0 < length rest
     there earlier rest whole (inl e) = let w : c ∷ t ≡ rest = rw e at whole in omega (arith, ap length w)
     there earlier rest whole (inr l) = l
 
@@ -128,7 +130,7 @@ module _ (earlier : List Entry) (rest : List ℕ) (good : GoodLines 0 fresh earl
   says-10 : Caused 10 earlier rest → NoForm earlier rest
   says-10 c = record { isThere = c .isThere; none = go (c .cause) }
     where
-      go : LineCause (nextRank 0 earlier) (after fresh earlier) rest 10 → NoFormAt rest
+      go : LineCause (nextRank 0 earlier) (stateAfter fresh earlier) rest 10 → NoFormAt rest
       go (noForm e h) = h
       go (outOfRange e h) = absurd (omega arith)
       go (outOfOrder e h) = absurd (omega arith)
@@ -140,7 +142,7 @@ module _ (earlier : List Entry) (rest : List ℕ) (good : GoodLines 0 fresh earl
   says-11 : Caused 11 earlier rest → OutOfRange rest
   says-11 c = go (c .cause)
     where
-      go : LineCause (nextRank 0 earlier) (after fresh earlier) rest 11 → OutOfRange rest
+      go : LineCause (nextRank 0 earlier) (stateAfter fresh earlier) rest 11 → OutOfRange rest
       go (noForm e h) = absurd (omega arith)
       go (outOfRange e h) = h
       go (outOfOrder e h) = absurd (omega arith)
@@ -158,7 +160,7 @@ module _ (earlier : List Entry) (rest : List ℕ) (good : GoodLines 0 fresh earl
   says-15 : Caused 15 earlier rest → OutOfOrder earlier rest
   says-15 c = go (c .cause)
     where
-      go : LineCause (nextRank 0 earlier) (after fresh earlier) rest 15 → OutOfOrder earlier rest
+      go : LineCause (nextRank 0 earlier) (stateAfter fresh earlier) rest 15 → OutOfOrder earlier rest
       go (noForm e h) = absurd (omega arith)
       go (outOfRange e h) = absurd (omega arith)
       go (outOfOrder e h) = record { entry = h .entry; more = h .more; isLine = h .isLine; ranged = h .ranged; disordered = order-means earlier good (h .entry) .0 (h .disordered) }
@@ -173,7 +175,7 @@ module _ (earlier : List Entry) (rest : List ℕ) (good : GoodLines 0 fresh earl
   says-16 : Caused 16 earlier rest → Unrested earlier rest
   says-16 c = go (c .cause)
     where
-      go : LineCause (nextRank 0 earlier) (after fresh earlier) rest 16 → Unrested earlier rest
+      go : LineCause (nextRank 0 earlier) (stateAfter fresh earlier) rest 16 → Unrested earlier rest
       go (noForm e h) = absurd (omega arith)
       go (outOfRange e h) = absurd (omega arith)
       go (outOfOrder e h) = absurd (omega arith)
@@ -219,15 +221,15 @@ lines-number text number place h = let b = lines-refused text number place .0 h 
 -- ---- texts whose every line is good
 
 good-text : (text : List ℕ) (s : State) → (readLines text ≡ loaded s) ↔ GoodText text s
-unfolding readLines textOf
+unfolding readLines linesText
 good-text [] s = (λ h. unequal cc, λ g. none (g .lines) (g .some) (g .whole))
   where
-    none : (es : List Entry) → 0 < length es → [] ≡ textOf es → refused 10 1 ≡ loaded s
+    none : (es : List Entry) → 0 < length es → [] ≡ linesText es → refused 10 1 ≡ loaded s
     none [] l h = absurd (omega arith)
-    none (e ∷ es) l h = absurd (omega (arith, ap length h, length-append (lineText e) (textOf es), line-some e))
+    none (e ∷ es) l h = absurd (omega (arith, ap length h, length-append (lineText e) (linesText es), line-some e))
 good-text (c ∷ t) s = (to, λ g. comes-lines (c ∷ t) (loaded s) (omega arith) (record { lines = g .lines; whole = g .whole; good = good-means (g .lines) .1 (g .good); same = g .same }))
   where
-    some : (es : List Entry) → c ∷ t ≡ textOf es → 0 < length es
+    some : (es : List Entry) → c ∷ t ≡ linesText es → 0 < length es
     some [] h = unequal cc
     some (e ∷ es) h = omega arith
 
@@ -242,12 +244,12 @@ module _ (list : RuleList) (text : List ℕ) where
   under-refused (loaded s) number place n h = absurd (go (lowest (λ rule. ruleHolds rule s) 1 (rulesOf list)) h)
     where
       go : (low : Lowest) → unlessBroken s low ≡ refused number place → ⊥
-      go unbroken h = unequal cc
-      go (broken k) h = n (let e : 17 ≡ number = cc in sym e)
+      go Unbroken h = unequal cc
+      go (BrokenAt k) h = n (let e : 17 ≡ number = cc in sym e)
   under-refused (refused c p) number place n h = h
 
   module _ (listed : listAccepted list ≡ true) where
-    state-result : readState list text ≡ underRules list (readLines text)
+    pub state-result : readState list text ≡ underRules list (readLines text)
     unfolding readState
     state-result = rw listed
 
@@ -302,9 +304,23 @@ module _ (list : RuleList) (text : List ℕ) where
             let w = lowest-means (λ rule. ruleHolds rule s) (rulesOf list) filler n .0 (low (lowest (λ rule. ruleHolds rule s) 1 (rulesOf list)) h) in
             (s, good-text text s .0 e, w .0, w .1, w .2)
           where
-            low : (l : Lowest) → unlessBroken s l ≡ refused 17 (suc n) → l ≡ broken (suc n)
-            low unbroken h = unequal cc
-            low (broken k) h = cc
+            low : (l : Lowest) → unlessBroken s l ≡ refused 17 (suc n) → l ≡ BrokenAt (suc n)
+            low Unbroken h = unequal cc
+            low (BrokenAt k) h = cc
+
+    -- and never with another rule
+    pub refused-17-rule : (place : ℕ) → readState list text ≡ refused 17 place → 1 ≤ place
+    refused-17-rule place h = by-lines (readLines text) refl (sym state-result ∙ h)
+      where
+        by-lines : (r : Loading) → readLines text ≡ r → underRules list r ≡ refused 17 place → 1 ≤ place
+        by-lines (refused number line) e h =
+            let b = lines-refused text number line .0 e in
+            absurd (let z : number ≡ 17 = cc in omega (arith, line-number _ _ _ number (b .bad .cause)))
+        by-lines (loaded s) e h = lowest-from (λ rule. ruleHolds rule s) 1 (rulesOf list) place (low (lowest (λ rule. ruleHolds rule s) 1 (rulesOf list)) h)
+          where
+            low : (l : Lowest) → unlessBroken s l ≡ refused 17 place → l ≡ BrokenAt place
+            low Unbroken h = unequal cc
+            low (BrokenAt k) h = cc
 
     -- a text is read where every line is good and every rule holds
     pub read-good : (s : State) → (readState list text ≡ loaded s) ↔ (GoodText text s × (obeys (rulesOf list) s ≡ true))
@@ -319,9 +335,9 @@ module _ (list : RuleList) (text : List ℕ) where
             let w = low (lowest (λ rule. ruleHolds rule t) 1 (rulesOf list)) h in
             (subst (GoodText text) (w .1) (good-text text t .0 e), subst (λ (x : State). obeys (rulesOf list) x ≡ true) (w .1) (lowest-none (λ rule. ruleHolds rule t) 1 (rulesOf list) (w .0)))
           where
-            low : (l : Lowest) → unlessBroken t l ≡ loaded s → (l ≡ unbroken) × (t ≡ s)
-            low unbroken h = (refl, cc)
-            low (broken k) h = unequal cc
+            low : (l : Lowest) → unlessBroken t l ≡ loaded s → (l ≡ Unbroken) × (t ≡ s)
+            low Unbroken h = (refl, cc)
+            low (BrokenAt k) h = unequal cc
 
   -- 40: the rules are refused, whatever the text
   pub refused-40 : (place : ℕ) → (readState list text ≡ refused 40 place) ↔ ((listAccepted list ≡ false) × (place ≡ 0))
@@ -333,3 +349,52 @@ module _ (list : RuleList) (text : List ℕ) where
           let b = lines-refused text 40 place .0 (under-refused (readLines text) 40 place (λ e. omega arith) h) in
           absurd (omega (arith, line-number _ _ _ 40 (b .bad .cause)))
       to false listed h = (listed, cc)
+
+  -- no number but these is ever given
+  pub refused-number : (number place : ℕ) → readState list text ≡ refused number place → List·Memᴰ number (10 ∷ 11 ∷ 15 ∷ 16 ∷ 17 ∷ 40 ∷ [])
+  unfolding readState
+  refused-number number place = by-list (listAccepted list)
+    where
+      by-cause : {next : ℕ} {s : State} {rest : List ℕ} → LineCause next s rest number → List·Memᴰ number (10 ∷ 11 ∷ 15 ∷ 16 ∷ 17 ∷ 40 ∷ [])
+      by-cause (noForm e h) = List·Memᴰ·head e
+      by-cause (outOfRange e h) = List·Memᴰ·tail (List·Memᴰ·head e)
+      by-cause (outOfOrder e h) = List·Memᴰ·tail (List·Memᴰ·tail (List·Memᴰ·head e))
+      by-cause (unrested e h) = List·Memᴰ·tail (List·Memᴰ·tail (List·Memᴰ·tail (List·Memᴰ·head e)))
+
+      by-lowest : (s : State) (low : Lowest) → unlessBroken s low ≡ refused number place → number ≡ 17
+      by-lowest s Unbroken h = unequal cc
+      by-lowest s (BrokenAt k) h = cc
+
+      by-lines : (r : Loading) → readLines text ≡ r → underRules list r ≡ refused number place → List·Memᴰ number (10 ∷ 11 ∷ 15 ∷ 16 ∷ 17 ∷ 40 ∷ [])
+      by-lines (loaded s) e h =
+          List·Memᴰ·tail (List·Memᴰ·tail (List·Memᴰ·tail (List·Memᴰ·tail (List·Memᴰ·head (by-lowest s (lowest (λ rule. ruleHolds rule s) 1 (rulesOf list)) h)))))
+      by-lines (refused k p) e h = by-cause (lines-refused text number place .0 (e ∙ h) .bad .cause)
+
+      by-list : (listed : Bool) → cond listed (underRules list (readLines text)) (refused 40 0) ≡ refused number place → List·Memᴰ number (10 ∷ 11 ∷ 15 ∷ 16 ∷ 17 ∷ 40 ∷ [])
+      by-list true h = by-lines (readLines text) refl h
+      by-list false h = let e : number ≡ 40 = cc in List·Memᴰ·tail (List·Memᴰ·tail (List·Memᴰ·tail (List·Memᴰ·tail (List·Memᴰ·tail (List·Memᴰ·head e)))))
+
+  -- of what `read_state` returns: 0, or one of these
+  pub read-number : List·Memᴰ (loadedOf (readState list text) .number) (0 ∷ 10 ∷ 11 ∷ 15 ∷ 16 ∷ 17 ∷ 40 ∷ [])
+  read-number = by-result (readState list text) refl
+    where
+      by-result : (r : Loading) → readState list text ≡ r → List·Memᴰ (loadedOf r .number) (0 ∷ 10 ∷ 11 ∷ 15 ∷ 16 ∷ 17 ∷ 40 ∷ [])
+      by-result (loaded s) e = List·Memᴰ·head refl
+      by-result (refused number place) e = List·Memᴰ·tail (refused-number number place e)
+
+  -- and 0 where the state was read
+  pub read-zero : loadedOf (readState list text) .number ≡ 0 → readState list text ≡ loaded (loadedOf (readState list text) .state)
+  read-zero = by-result (readState list text) refl
+    where
+      some : {number : ℕ} → List·Memᴰ number (10 ∷ 11 ∷ 15 ∷ 16 ∷ 17 ∷ 40 ∷ []) → 0 < number
+      some (List·Memᴰ·head e) = omega arith
+      some (List·Memᴰ·tail (List·Memᴰ·head e)) = omega arith
+      some (List·Memᴰ·tail (List·Memᴰ·tail (List·Memᴰ·head e))) = omega arith
+      some (List·Memᴰ·tail (List·Memᴰ·tail (List·Memᴰ·tail (List·Memᴰ·head e)))) = omega arith
+      some (List·Memᴰ·tail (List·Memᴰ·tail (List·Memᴰ·tail (List·Memᴰ·tail (List·Memᴰ·head e))))) = omega arith
+      some (List·Memᴰ·tail (List·Memᴰ·tail (List·Memᴰ·tail (List·Memᴰ·tail (List·Memᴰ·tail (List·Memᴰ·head e)))))) = omega arith
+      some (List·Memᴰ·tail (List·Memᴰ·tail (List·Memᴰ·tail (List·Memᴰ·tail (List·Memᴰ·tail (List·Memᴰ·tail m)))))) = absurd (List·Memᴰ·not-nil m)
+
+      by-result : (r : Loading) → readState list text ≡ r → loadedOf r .number ≡ 0 → r ≡ loaded (loadedOf r .state)
+      by-result (loaded s) e none = refl
+      by-result (refused number place) e none = absurd (omega (arith, none, some (refused-number number place e)))

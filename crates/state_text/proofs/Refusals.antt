@@ -11,9 +11,9 @@ use lib.Seq.{drop-append-seam}
 use Rattle.enforcement.specs.States.{fresh}
 use Rattle.enforcement.specs.declared.states.State.{State}
 use Rattle.state_text.specs.Entries.{lineText, rank, inOrder, withLine, rests}
-use Rattle.state_text.specs.Saving.{textOf}
-use Rattle.state_text.specs.Reading.{readLine, entryIn, lengthIn, Loading, loaded, refused, verdict, readFrom, readLines}
-use Rattle.state_text.specs.Causes.{Ranged, after, OutOfRange}
+use Rattle.state_text.specs.Saving.{linesText}
+use Rattle.state_text.specs.Reading.{readLine, entryIn, lengthIn, Loading, loaded, refused, lineVerdict, readFrom, readLines}
+use Rattle.state_text.specs.Causes.{Ranged, stateAfter, OutOfRange}
 use Rattle.state_text.specs.declared.entries.Entry.{Entry}
 use Rattle.state_text.specs.declared.reading.LineRead.{LineRead}
 use Rattle.state_text.specs.declared.reading.LineRead.the-variants.{Good, Bad}
@@ -25,7 +25,7 @@ use Rattle.state_text.proofs.GoodLines.{nextRank, GoodLines}
 
 pub read-step : (f n next : ℕ) (s : State) (t : List ℕ) → 0 < length t
     → readFrom (suc f) n next s t
-    ≡ verdict n next s (readLine t) (readFrom f (suc n) (suc (rank (entryIn (readLine t)))) (withLine s (entryIn (readLine t))) (drop (lengthIn (readLine t)) t))
+    ≡ lineVerdict n next s (readLine t) (readFrom f (suc n) (suc (rank (entryIn (readLine t)))) (withLine s (entryIn (readLine t))) (drop (lengthIn (readLine t)) t))
 unfolding readFrom
 read-step f n next s [] h = absurd (omega arith)
 read-step f n next s (c ∷ t) h = refl
@@ -67,18 +67,18 @@ pub data LineCause (next : ℕ) (s : State) (text : List ℕ) (number : ℕ) : T
 
 pub record AllGood (next : ℕ) (s : State) (text : List ℕ) (given : State) : Type 0 where
   pub lines : List Entry
-  pub whole : text ≡ textOf lines
+  pub whole : text ≡ linesText lines
   pub good : GoodLines next s lines
-  pub same : after s lines ≡ given
+  pub same : stateAfter s lines ≡ given
 
 pub record OneBad (n next : ℕ) (s : State) (text : List ℕ) (number place : ℕ) : Type 0 where
   pub earlier : List Entry
   pub rest : List ℕ
-  pub whole : text ≡ textOf earlier ++ rest
+  pub whole : text ≡ linesText earlier ++ rest
   pub more : 0 < length rest
   pub good : GoodLines next s earlier
   pub here : place ≡ n + length earlier
-  pub cause : LineCause (nextRank next earlier) (after s earlier) rest number
+  pub cause : LineCause (nextRank next earlier) (stateAfter s earlier) rest number
 
 abbrev pub Comes : ℕ → ℕ → State → List ℕ → Loading → Type 0
 Comes n next s text (loaded given) = AllGood next s text given
@@ -89,7 +89,7 @@ Comes n next s text (refused number place) = OneBad n next s text number place
 -- one good line more in front
 prepend : (n next : ℕ) (s : State) (text more : List ℕ) (e : Entry) (r : Loading) → Ranged e → inOrder next e ≡ true → rests s e ≡ true → text ≡ lineText e ++ more
     → Comes (suc n) (suc (rank e)) (withLine s e) more r → Comes n next s text r
-unfolding textOf
+unfolding linesText
 prepend n next s text more e (loaded given) h o q whole c = record {
   lines = e ∷ c .lines;
   whole = whole ∙ ap (λ (t : List ℕ). lineText e ++ t) (c .whole);
@@ -99,7 +99,7 @@ prepend n next s text more e (loaded given) h o q whole c = record {
 prepend n next s text more e (refused number place) h o q whole c = record {
   earlier = e ∷ c .earlier;
   rest = c .rest;
-  whole = whole ∙ ap (λ (t : List ℕ). lineText e ++ t) (c .whole) ∙ sym (append-assoc (lineText e) (textOf (c .earlier)) (c .rest));
+  whole = whole ∙ ap (λ (t : List ℕ). lineText e ++ t) (c .whole) ∙ sym (append-assoc (lineText e) (linesText (c .earlier)) (c .rest));
   more = c .more;
   good = (h, o, q, c .good);
   here = omega (arith, c .here);
@@ -107,13 +107,13 @@ prepend n next s text more e (refused number place) h o q whole c = record {
 }
 
 bad-here : (n next : ℕ) (s : State) (text : List ℕ) (number : ℕ) → 0 < length text → LineCause next s text number → OneBad n next s text number n
-unfolding textOf
+unfolding linesText
 bad-here n next s text number h c = record { earlier = []; rest = text; whole = refl; more = h; good = tt; here = omega arith; cause = c }
 
 -- the result at a line, by what is read of it and of the rest
 verdict-comes : (n next : ℕ) (s : State) (text : List ℕ) (a : LineRead) (r : Loading) → 0 < length text → Answers text a
     → (GoodLine text (record { entry = entryIn a; length = lengthIn a }) → Comes (suc n) (suc (rank (entryIn a))) (withLine s (entryIn a)) (drop (lengthIn a) text) r)
-    → Comes n next s text (verdict n next s a r)
+    → Comes n next s text (lineVerdict n next s a r)
 verdict-comes n next s text (Bad number) r some (inl h) f =
     bad-here n next s text number some (noForm (h .0) (h .1))
 verdict-comes n next s text (Bad number) r some (inr h) f = bad-here n next s text number some (outOfRange (h .0) (h .1))
@@ -133,7 +133,7 @@ shorter text a good =
     omega (arith, ap length (good .isLine), length-append (lineText (entryIn a)) (drop (lengthIn a) text), line-some (entryIn a))
 
 pub from-comes : (f n next : ℕ) (s : State) (text : List ℕ) → length text ≤ f → Comes n next s text (readFrom f n next s text)
-unfolding readFrom textOf
+unfolding readFrom linesText
 from-comes zero n next s [] l = record { lines = []; whole = refl; good = tt; same = refl }
 from-comes zero n next s (c ∷ t) l = absurd (omega arith)
 from-comes (suc f) n next s [] l = record { lines = []; whole = refl; good = tt; same = refl }
@@ -145,29 +145,29 @@ from-comes (suc f) n next s (c ∷ t) l =
 -- ---- and is the one of which it can be said
 
 -- a good line at the front
-pub read-good : (f n next : ℕ) (s : State) (e : Entry) (more : List ℕ) → Ranged e → inOrder next e ≡ true → rests s e ≡ true
+pub read-good-line : (f n next : ℕ) (s : State) (e : Entry) (more : List ℕ) → Ranged e → inOrder next e ≡ true → rests s e ≡ true
     → readFrom (suc f) n next s (lineText e ++ more) ≡ readFrom f (suc n) (suc (rank e)) (withLine s e) more
-read-good f n next s e more h o r =
+read-good-line f n next s e more h o r =
     read-step f n next s (lineText e ++ more) (rw length-append (omega (arith, line-some e)))
     ∙ rw (read-line e more h) (rw (o, r, drop-append-seam (lineText e) more))
 
 -- good lines at the front
-pub read-goods : (es : List Entry) (f n next : ℕ) (s : State) (more : List ℕ) → GoodLines next s es → length (textOf es ++ more) ≤ f
-    → (g : ℕ) × (length more ≤ g) × (readFrom f n next s (textOf es ++ more) ≡ readFrom g (n + length es) (nextRank next es) (after s es) more)
-unfolding textOf
+pub read-goods : (es : List Entry) (f n next : ℕ) (s : State) (more : List ℕ) → GoodLines next s es → length (linesText es ++ more) ≤ f
+    → (g : ℕ) × (length more ≤ g) × (readFrom f n next s (linesText es ++ more) ≡ readFrom g (n + length es) (nextRank next es) (stateAfter s es) more)
+unfolding linesText
 read-goods [] f n next s more good l = (f, l, rw (zero-right n))
   where
     zero-right : (n : ℕ) → n + 0 ≡ n
     zero-right n = omega arith
 read-goods (e ∷ es) zero n next s more good l =
-    absurd (omega (arith, length-append (lineText e ++ textOf es) more, length-append (lineText e) (textOf es), line-some e))
+    absurd (omega (arith, length-append (lineText e ++ linesText es) more, length-append (lineText e) (linesText es), line-some e))
 read-goods (e ∷ es) (suc f) n next s more good l =
-    let k = length-append (lineText e) (textOf es ++ more) in
-    let same = append-assoc (lineText e) (textOf es) more in
-    let b : length (textOf es ++ more) ≤ f = omega (arith, k, ap length same, line-some e) in
+    let k = length-append (lineText e) (linesText es ++ more) in
+    let same = append-assoc (lineText e) (linesText es) more in
+    let b : length (linesText es ++ more) ≤ f = omega (arith, k, ap length same, line-some e) in
     let g = read-goods es f (suc n) (suc (rank e)) (withLine s e) more (good .3) b in
     let m : suc n + length es ≡ n + suc (length es) = omega arith in
-    (g .0, g .1, ap (readFrom (suc f) n next s) same ∙ read-good f n next s e (textOf es ++ more) (good .0) (good .1) (good .2) ∙ g .2 ∙ rw m)
+    (g .0, g .1, ap (readFrom (suc f) n next s) same ∙ read-good-line f n next s e (linesText es ++ more) (good .0) (good .1) (good .2) ∙ g .2 ∙ rw m)
 
 module _ (f n next : ℕ) (s : State) where
   bad-is : (text : List ℕ) (number : ℕ) → 0 < length text → length text ≤ f → LineCause next s text number → readFrom f n next s text ≡ refused number n
@@ -178,26 +178,25 @@ module _ (f n next : ℕ) (s : State) where
       later : Loading
       later = readFrom (f - 1) (suc n) (suc (rank (entryIn (readLine text)))) (withLine s (entryIn (readLine text))) (drop (lengthIn (readLine text)) text)
 
-      go : (number : ℕ) → LineCause next s text number → verdict n next s (readLine text) later ≡ refused number n
+      go : (number : ℕ) → LineCause next s text number → lineVerdict n next s (readLine text) later ≡ refused number n
       go number (noForm e h) = rw (read-none text h, e)
       go number (outOfRange e h) =
-          let q : readLine text ≡ Bad 11 = ap readLine (h .isLine) ∙ read-outside (h .form) (h .values) (h .more) (h .isForm) (h .canStand) (h .outside) in
-          ap (λ (a : LineRead). verdict n next s a later) q ∙ rw e
+          ap (λ (a : LineRead). lineVerdict n next s a later) (read-outside text h) ∙ rw e
       go number (outOfOrder e h) =
           let q = ap readLine (h .isLine) ∙ read-line (h .entry) (h .more) (h .ranged) in
-          ap (λ (a : LineRead). verdict n next s a later) q ∙ rw (h .disordered, e)
+          ap (λ (a : LineRead). lineVerdict n next s a later) q ∙ rw (h .disordered, e)
       go number (unrested e h) =
           let q = ap readLine (h .isLine) ∙ read-line (h .entry) (h .more) (h .ranged) in
-          ap (λ (a : LineRead). verdict n next s a later) q ∙ rw (h .ordered, h .lacking, e)
+          ap (λ (a : LineRead). lineVerdict n next s a later) q ∙ rw (h .ordered, h .lacking, e)
 
 pub comes-from : (r : Loading) (f n next : ℕ) (s : State) (text : List ℕ) → length text ≤ f → Comes n next s text r → readFrom f n next s text ≡ r
 comes-from (loaded given) f n next s text l c =
-    let e = append-nil (textOf (c .lines)) in
-    let w : text ≡ textOf (c .lines) ++ [] = c .whole ∙ sym e in
+    let e = append-nil (linesText (c .lines)) in
+    let w : text ≡ linesText (c .lines) ++ [] = c .whole ∙ sym e in
     let g = read-goods (c .lines) f n next s [] (c .good) (rw w at l) in
     ap (readFrom f n next s) w ∙ g .2 ∙ read-end (g .0) _ _ _ ∙ ap loaded (c .same)
 comes-from (refused number place) f n next s text l c =
     let g = read-goods (c .earlier) f n next s (c .rest) (c .good) (rw (c .whole) at l) in
     ap (readFrom f n next s) (c .whole) ∙ g .2
-    ∙ bad-is (g .0) (n + length (c .earlier)) (nextRank next (c .earlier)) (after s (c .earlier)) (c .rest) number (c .more) (g .1) (c .cause)
+    ∙ bad-is (g .0) (n + length (c .earlier)) (nextRank next (c .earlier)) (stateAfter s (c .earlier)) (c .rest) number (c .more) (g .1) (c .cause)
     ∙ ap (refused number) (sym (c .here))

@@ -18,9 +18,9 @@ use Rattle.forms.specs.Kinds.{kindOf, lookup, isSlot}
 use Rattle.forms.specs.Forms.{textBy, itemText, fill}
 use Rattle.forms.specs.Tables.{bytes, linesIn, formAt}
 use Rattle.state_text.specs.Entries.{savedForms, formOf, valuesOf, lineText}
-use Rattle.state_text.specs.Saving.{linesOf, textOf, savedText}
+use Rattle.state_text.specs.Saving.{linesOf, linesText, savedText}
 use Rattle.state_text.specs.Reading.{loaded, refused, underRules, readLines, readState}
-use Rattle.state_text.specs.Causes.{after, GoodText, ReadUnder}
+use Rattle.state_text.specs.Causes.{stateAfter, GoodText, ReadUnder}
 use Rattle.state_text.specs.declared.entries.Entry.{Entry}
 use Rattle.state_text.specs.declared.entries.Entry.the-variants.{Now}
 use Rattle.state_text.proofs.Keeping.{Kept}
@@ -35,11 +35,11 @@ text-left : (text : List ℕ) (s : State) → GoodText text s → Kept s × (sav
 unfolding savedText
 text-left text s good = go (good .lines) (good .some) (good .whole) (good-means (good .lines) .1 (good .good)) (good .same)
   where
-    go : (es : List Entry) → 0 < length es → text ≡ textOf es → GoodLines 0 fresh es → after fresh es ≡ s → Kept s × (textOf (linesOf s) ≡ text)
+    go : (es : List Entry) → 0 < length es → text ≡ linesText es → GoodLines 0 fresh es → stateAfter fresh es ≡ s → Kept s × (linesText (linesOf s) ≡ text)
     go [] some whole lines same = absurd (omega arith)
     go (e ∷ es) some whole lines same =
         let left = good-left e es lines in
-        (subst Kept same (left .kept), ap (λ (x : State). textOf (linesOf x)) (sym same) ∙ ap textOf (left .lines) ∙ sym whole)
+        (subst Kept same (left .kept), ap (λ (x : State). linesText (linesOf x)) (sym same) ∙ ap linesText (left .lines) ∙ sym whole)
 
 module _ (list : RuleList) where
   -- under rules that 40 refuses nothing is read
@@ -83,4 +83,4 @@ module _ (list : RuleList) where
 -- "Fresh is `(now 0)`."
 pub fresh-text : savedText fresh ≡ bytes "(now 0)\n"
 unfolding savedText lineText formOf valuesOf formAt linesIn savedForms fill itemText textBy digitsOf digitsWithin isSlot kindOf lookup
-fresh-text = ap textOf fresh-lines ∙ text-one (Now 0)
+fresh-text = ap linesText fresh-lines ∙ text-one (Now 0)

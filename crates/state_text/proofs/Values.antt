@@ -1,26 +1,24 @@
 -- A line by its form and its values: what their ranges say, and that the form with the values is the line's text.
 -- Assumes nothing.
 use mathlib.Core.Path.{_≡_, refl, subst, subst⁻¹}
-use mathlib.Core.Bool.{Bool, true, false, cond, _&&_}
+use mathlib.Core.Bool.{Bool, true, _&&_}
 use mathlib.Core.List.{List, [], _∷_}
-use Prim.Native.Nat.{ℕ, zero, suc, _+_, _-_, _≤_, _<_, zero-le}
+use Prim.Native.Nat.{ℕ, zero, suc, _-_, _≤_, _<_, zero-le}
 use native.Mathlib.Omega.{arith}
-use lib.Dec.{ltb, leb}
-use lib.IntN.{ℤ, pos, negsuc}
+use lib.Dec.{leb}
 use lib.ListN.{getD, length, replicate}
 use lib.Seq.{sets}
-use borrow.Author.Tests.{ltb-true, leb-true, lt-ltb, le-ltb, le-leb}
+use borrow.Author.Tests.{leb-true, le-leb}
 use Rattle.sets.proofs.Booleans.{both, both-true}
-use Rattle.forms.specs.Numbers.{isDigit, signedValue, signedCode}
+use Rattle.forms.specs.Numbers.{isDigit}
 use Rattle.forms.specs.Kinds.{kindOf, lookup, isSlot, amountOf, inRangeBy, inRange}
 use Rattle.forms.specs.Forms.{textBy, itemText, fill, allInRange, valuesIn}
 use Rattle.forms.specs.Tables.{linesIn, formAt, distinct}
-use Rattle.places.specs.Places.{onGrid}
-use Rattle.state_text.specs.Entries.{savedForms, coordinateOf, entryOf, formOf, valuesOf, lineText}
+use Rattle.forms.proofs.Coordinates.{coordinate-back, coordinate-grid, code-back, code-range}
+use Rattle.state_text.specs.Entries.{savedForms, entryOf, formOf, valuesOf, lineText}
 use Rattle.state_text.specs.Causes.{Ranged}
 use Rattle.state_text.specs.declared.entries.Entry.{Entry}
 use Rattle.state_text.specs.declared.entries.Entry.the-variants.{Now, Assigned, Granted, Open, Place, Active, Did}
-use Rattle.state_text.proofs.Rows.{by-test}
 
 -- ---- the table
 
@@ -42,57 +40,6 @@ form-small (Open i u) = omega arith
 form-small (Place i x y) = omega arith
 form-small (Active i r) = omega arith
 form-small (Did o p u) = omega arith
-
--- ---- coordinates
-
--- on the grid a coordinate is what its value says
-pub coordinate-back : (z : ℤ) → onGrid z ≡ true → coordinateOf (signedCode z) ≡ z
-unfolding coordinateOf signedValue signedCode
-coordinate-back (pos n) h =
-    let l = leb-true n 1000000 h in
-    rw (lt-ltb n 10000000000 (omega arith), h)
-coordinate-back (negsuc n) h =
-    let l = leb-true (suc n) 1000000 h in
-    let e : 10000000001 + n - 10000000000 ≡ suc n = omega arith in
-    rw (le-ltb (10000000001 + n) 10000000000 (omega arith), lt-ltb (10000000001 + n) 20000000000 (omega arith), e, h)
-
-pub coordinate-grid : (v : ℕ) → onGrid (coordinateOf v) ≡ true
-unfolding coordinateOf
-coordinate-grid v = by-test (onGrid (signedValue v)) (λ e. rw e e) (λ e. rw e)
-
--- as the code reads one
-pub coordinate-off : (v : ℕ) → onGrid (signedValue v) ≡ false → pos 0 ≡ coordinateOf v
-unfolding coordinateOf
-coordinate-off v e = rw e
-
-pub coordinate-on : (v : ℕ) → onGrid (signedValue v) ≡ true → signedValue v ≡ coordinateOf v
-unfolding coordinateOf
-coordinate-on v e = rw e
-
--- the value of a coordinate in its range
-pub code-back : (v : ℕ) → leb (amountOf v) 1000000 ≡ true → signedCode (coordinateOf v) ≡ v
-unfolding amountOf coordinateOf signedValue signedCode
-code-back v h = by-test (ltb 10000000000 v) high low
-  where
-    high : ltb 10000000000 v ≡ true → signedCode (cond (onGrid (signedValue v)) (signedValue v) (pos 0)) ≡ v
-    high e =
-        let l = ltb-true 10000000000 v e in
-        let m = leb-true (v - 10000000000) 1000000 (rw e at h) in
-        let d : v - 10000000000 ≡ suc (v - 10000000001) = omega arith in
-        rw (le-ltb v 10000000000 (omega arith), lt-ltb v 20000000000 (omega arith), d, le-leb (suc (v - 10000000001)) 1000000 (omega arith)) (omega arith)
-
-    low : ltb 10000000000 v ≡ false → signedCode (cond (onGrid (signedValue v)) (signedValue v) (pos 0)) ≡ v
-    low e =
-        let m = leb-true v 1000000 (rw e at h) in
-        rw (lt-ltb v 10000000000 (omega arith), le-leb v 1000000 m)
-
-pub code-range : (z : ℤ) → onGrid z ≡ true → leb (amountOf (signedCode z)) 1000000 ≡ true
-unfolding amountOf signedCode
-code-range (pos n) h = let l = leb-true n 1000000 h in rw (le-ltb 10000000000 n (omega arith)) h
-code-range (negsuc n) h =
-    let l = leb-true (suc n) 1000000 h in
-    let e : 10000000001 + n - 10000000000 ≡ suc n = omega arith in
-    rw (lt-ltb 10000000000 (10000000001 + n) (omega arith), e) h
 
 -- ---- ranges, by the marks and by the line
 

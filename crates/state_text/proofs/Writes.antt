@@ -19,7 +19,7 @@ use Rattle.rules.specs.declared.sessions.Session.{Session}
 use Rattle.enforcement.specs.States.{assignedRole, carries, did, stateAccepted}
 use Rattle.enforcement.specs.declared.states.State.{State}
 use Rattle.state_text.specs.Entries.{lineText}
-use Rattle.state_text.specs.Saving.{over, only, placeLines, sessionLines, linesOf, textOf, savedText, writtenState, lentState}
+use Rattle.state_text.specs.Saving.{over, only, placeLines, sessionLines, linesOf, linesText, savedText, writtenState, lentState}
 use Rattle.state_text.specs.Parts.{memberLine, memberLines, setLines, rowLines, historyLines, openLines, sessionParts}
 use Rattle.state_text.specs.declared.entries.Entry.{Entry}
 use Rattle.state_text.specs.declared.entries.Entry.the-variants.{Now, Assigned, Granted, Did}
@@ -30,14 +30,14 @@ use Rattle.state_text.proofs.Lengths.{text-append, text-none, text-one}
 -- ---- a loop that writes the parts f 0, f 1, ..
 
 pub record Loop (f : ℕ → List Entry) (l₀ : List ℕ) (at : ℕ) (l : List ℕ) (p j : ℕ) : Type 0 where
-  pub wrote : Wrote l₀ at (textOf (over j f)) p l
+  pub wrote : Wrote l₀ at (linesText (over j f)) p l
   pub small : length l₀ ≤ lastPlace
 
 pub start : (f : ℕ → List Entry) (l : List ℕ) (at : ℕ) → length l ≤ lastPlace → at ≤ lastPlace → Loop f l at l at 0
 start f l at h k = record { wrote = like (rw (over-zero f) text-none) (nothing-written l at k); small = h }
 
 pub turn : {f : ℕ → List Entry} {l₀ : List ℕ} {at : ℕ} {l : List ℕ} {p j : ℕ} → Loop f l₀ at l p j
-    → {p′ : ℕ} {l′ : List ℕ} → Wrote l p (textOf (f j)) p′ l′ → Loop f l₀ at l′ p′ (j + 1)
+    → {p′ : ℕ} {l′ : List ℕ} → Wrote l p (linesText (f j)) p′ l′ → Loop f l₀ at l′ p′ (j + 1)
 turn {f} {l₀} {at} {l} {p} {j} inv {p′} {l′} h = record {
   wrote = like (rw (add-one, over-suc j f) (text-append (over j f) (f j))) (then (inv .small) (inv .wrote) h);
   small = inv .small;
@@ -47,21 +47,21 @@ pub same : {f : ℕ → List Entry} {l₀ : List ℕ} {at : ℕ} {l : List ℕ} 
 same inv = same-length (inv .wrote)
 
 pub end : {f : ℕ → List Entry} {l₀ : List ℕ} {at : ℕ} {l : List ℕ} {p j : ℕ} (n : ℕ) → Loop f l₀ at l p j → j ≤ n → n ≤ j
-    → Wrote l₀ at (textOf (over n f)) p l
+    → Wrote l₀ at (linesText (over n f)) p l
 end {f} {l₀} {at} {l} {p} {j} n inv a b = let e : n ≡ j = omega arith in rw e (inv .wrote)
 
 -- ---- one line, or none
 
-pub one-line : (e : Entry) {l : List ℕ} {i r : ℕ} {l′ : List ℕ} → Wrote l i (lineText e) r l′ → Wrote l i (textOf (e ∷ [])) r l′
+pub one-line : (e : Entry) {l : List ℕ} {i r : ℕ} {l′ : List ℕ} → Wrote l i (lineText e) r l′ → Wrote l i (linesText (e ∷ [])) r l′
 one-line e w = like (text-one e) w
 
-pub no-line : (l : List ℕ) (i : ℕ) → i ≤ lastPlace → Wrote l i (textOf []) i l
+pub no-line : (l : List ℕ) (i : ℕ) → i ≤ lastPlace → Wrote l i (linesText []) i l
 no-line l i h = like text-none (nothing-written l i h)
 
-pub only-yes : (b : Bool) (e : Entry) → b ≡ true → {l : List ℕ} {i r : ℕ} {l′ : List ℕ} → Wrote l i (lineText e) r l′ → Wrote l i (textOf (only b e)) r l′
+pub only-yes : (b : Bool) (e : Entry) → b ≡ true → {l : List ℕ} {i r : ℕ} {l′ : List ℕ} → Wrote l i (lineText e) r l′ → Wrote l i (linesText (only b e)) r l′
 only-yes b e h w = rw h (one-line e w)
 
-pub only-no : (b : Bool) (e : Entry) → b ≡ false → (l : List ℕ) (i : ℕ) → i ≤ lastPlace → Wrote l i (textOf (only b e)) i l
+pub only-no : (b : Bool) (e : Entry) → b ≡ false → (l : List ℕ) (i : ℕ) → i ≤ lastPlace → Wrote l i (linesText (only b e)) i l
 only-no b e h l i k = rw h (no-line l i k)
 
 -- ---- the lines of a set
@@ -70,7 +70,7 @@ no-members : (form a b : ℕ) → setLines form a b 0 ≡ []
 unfolding setLines memberLines
 no-members form a b = over-more 64 0 (λ j. only (member 0 j) (memberLine form a b j)) (λ j p q. rw (member-empty j)) ∙ over-zero (λ j. only (member 0 j) (memberLine form a b j))
 
-pub empty-set : (form a b set : ℕ) → set ≡ 0 → (l : List ℕ) (i : ℕ) → i ≤ lastPlace → Wrote l i (textOf (setLines form a b set)) i l
+pub empty-set : (form a b set : ℕ) → set ≡ 0 → (l : List ℕ) (i : ℕ) → i ≤ lastPlace → Wrote l i (linesText (setLines form a b set)) i l
 empty-set form a b set e l i h = like (rw (e, no-members form a b) text-none) (nothing-written l i h)
 
 -- a set of numbers below 32
@@ -80,12 +80,12 @@ low-set form a b set h = over-more 32 32 (λ j. only (member set j) (memberLine 
 
 pub row-turn : (form : ℕ) (words : List ℕ) {l₀ : List ℕ} {at : ℕ} {l : List ℕ} {p i : ℕ} → Loop (rowLines form words) l₀ at l p i
     → {word : ℕ} → word ≡ wordAt words i → word < 2 ^ 32
-    → {p′ : ℕ} {l′ : List ℕ} → Wrote l p (textOf (setLines form i 0 word)) p′ l′ → Loop (rowLines form words) l₀ at l′ p′ (i + 1)
+    → {p′ : ℕ} {l′ : List ℕ} → Wrote l p (linesText (setLines form i 0 word)) p′ l′ → Loop (rowLines form words) l₀ at l′ p′ (i + 1)
 unfolding rowLines
-row-turn form words {i = i} inv {word} e h w = turn inv (like (ap textOf (sym (low-set form i 0 word h ∙ rw e))) w)
+row-turn form words {i = i} inv {word} e h w = turn inv (like (ap linesText (sym (low-set form i 0 word h ∙ rw e))) w)
 
 pub history-turn : (words : List ℕ) {l₀ : List ℕ} {at : ℕ} {l : List ℕ} {p i : ℕ} → Loop (historyLines words) l₀ at l p i
-    → {p′ : ℕ} {l′ : List ℕ} → Wrote l p (textOf (setLines 6 (i / 32) (i % 32) (wordAt words i))) p′ l′ → Loop (historyLines words) l₀ at l′ p′ (i + 1)
+    → {p′ : ℕ} {l′ : List ℕ} → Wrote l p (linesText (setLines 6 (i / 32) (i % 32) (wordAt words i))) p′ l′ → Loop (historyLines words) l₀ at l′ p′ (i + 1)
 unfolding historyLines
 history-turn words inv w = turn inv w
 
@@ -93,24 +93,24 @@ history-turn words inv w = turn inv w
 
 pub session-parts : (i : ℕ) (session : Session) (roles : ℕ) (word : ℕ) → word ≡ roles → word < 2 ^ 32
     → {l : List ℕ} {at a : ℕ} {k : List ℕ} {b : ℕ} {m : List ℕ} {r : ℕ} {l′ : List ℕ} → length l ≤ lastPlace
-    → Wrote l at (textOf (openLines i (session .«is_open») (session .user))) a k
-    → Wrote k a (textOf (placeLines i (session .position))) b m
-    → Wrote m b (textOf (setLines 5 i 0 word)) r l′
-    → Wrote l at (textOf (sessionParts i session roles)) r l′
+    → Wrote l at (linesText (openLines i (session .«is_open») (session .user))) a k
+    → Wrote k a (linesText (placeLines i (session .position))) b m
+    → Wrote m b (linesText (setLines 5 i 0 word)) r l′
+    → Wrote l at (linesText (sessionParts i session roles)) r l′
 unfolding sessionParts
 session-parts i session roles word e h {l} {at} {a} {k} {b} {m} {r} {l′} small opened placed active =
     like
     (text-append (openLines i (session .«is_open») (session .user)) (placeLines i (session .position) ++ over 32 (memberLines 5 i 0 roles))
-    ∙ ap (λ (t : List ℕ). textOf (openLines i (session .«is_open») (session .user)) ++ t) (text-append (placeLines i (session .position)) (over 32 (memberLines 5 i 0 roles))))
-    (then small opened (then (rw (same-length opened) small) placed (like (ap textOf (sym (low-set 5 i 0 word h ∙ rw e))) active)))
+    ∙ ap (λ (t : List ℕ). linesText (openLines i (session .«is_open») (session .user)) ++ t) (text-append (placeLines i (session .position)) (over 32 (memberLines 5 i 0 roles))))
+    (then small opened (then (rw (same-length opened) small) placed (like (ap linesText (sym (low-set 5 i 0 word h ∙ rw e))) active)))
 
 session-same : (s : State) (i : ℕ) → sessionParts i (sessionAt (s .sessions) i) (wordAt (s .active) i) ≡ sessionLines s i
 unfolding sessionParts sessionLines openLines memberLines memberLine
 session-same s i = refl
 
 pub session-turn : (s : State) {l₀ : List ℕ} {at : ℕ} {l : List ℕ} {p i : ℕ} → Loop (sessionLines s) l₀ at l p i
-    → {p′ : ℕ} {l′ : List ℕ} → Wrote l p (textOf (sessionParts i (sessionAt (s .sessions) i) (wordAt (s .active) i))) p′ l′ → Loop (sessionLines s) l₀ at l′ p′ (i + 1)
-session-turn s {i = i} inv w = turn inv (like (ap textOf (sym (session-same s i))) w)
+    → {p′ : ℕ} {l′ : List ℕ} → Wrote l p (linesText (sessionParts i (sessionAt (s .sessions) i) (wordAt (s .active) i))) p′ l′ → Loop (sessionLines s) l₀ at l′ p′ (i + 1)
+session-turn s {i = i} inv w = turn inv (like (ap linesText (sym (session-same s i))) w)
 
 -- ---- the whole state
 
@@ -132,10 +132,10 @@ history-rows s = over-mul 32 32 (historyLines (s .history)) ∙ over-same 32 _ _
 pub state-parts : (s : State) → length (s .assigned) ≡ 64 → length (s .granted) ≡ 32
     → {l : List ℕ} {i p : ℕ} {a : List ℕ} {q : ℕ} {b : List ℕ} {x : ℕ} {c : List ℕ} {y : ℕ} {d : List ℕ} {r : ℕ} {l′ : List ℕ} → length l ≤ lastPlace
     → Wrote l i (lineText (Now (s .time))) p a
-    → Wrote a p (textOf (over (length (s .assigned)) (rowLines 1 (s .assigned)))) q b
-    → Wrote b q (textOf (over (length (s .granted)) (rowLines 2 (s .granted)))) x c
-    → Wrote c x (textOf (over 32 (sessionLines s))) y d
-    → Wrote d y (textOf (over 1024 (historyLines (s .history)))) r l′
+    → Wrote a p (linesText (over (length (s .assigned)) (rowLines 1 (s .assigned)))) q b
+    → Wrote b q (linesText (over (length (s .granted)) (rowLines 2 (s .granted)))) x c
+    → Wrote c x (linesText (over 32 (sessionLines s))) y d
+    → Wrote d y (linesText (over 1024 (historyLines (s .history)))) r l′
     → Wrote l i (savedText s) r l′
 unfolding savedText linesOf
 state-parts s ha hg small now assigned granted sessions history =
@@ -143,14 +143,14 @@ state-parts s ha hg small now assigned granted sessions history =
     let two = same-length assigned ∙ one in
     let three = same-length granted ∙ two in
     like
-    (text-append _ _ ∙ ap (λ (z : List ℕ). textOf (Now (s .time) ∷ []) ++ z)
-    (text-append _ _ ∙ ap (λ (z : List ℕ). textOf (over 64 (λ u. over 32 (λ r. only (assignedRole s u r) (Assigned u r)))) ++ z)
-    (text-append _ _ ∙ ap (λ (z : List ℕ). textOf (over 32 (λ r. over 32 (λ p. only (carries s r p) (Granted r p)))) ++ z)
+    (text-append _ _ ∙ ap (λ (z : List ℕ). linesText (Now (s .time) ∷ []) ++ z)
+    (text-append _ _ ∙ ap (λ (z : List ℕ). linesText (over 64 (λ u. over 32 (λ r. only (assignedRole s u r) (Assigned u r)))) ++ z)
+    (text-append _ _ ∙ ap (λ (z : List ℕ). linesText (over 32 (λ r. over 32 (λ p. only (carries s r p) (Granted r p)))) ++ z)
     (text-append _ _))))
     (then small (one-line (Now (s .time)) now)
-    (then (rw one small) (like (ap textOf (sym (rw ha (assigned-rows s)))) assigned)
-    (then (rw two small) (like (ap textOf (sym (rw hg (granted-rows s)))) granted)
-    (then (rw three small) sessions (like (ap textOf (sym (history-rows s))) history)))))
+    (then (rw one small) (like (ap linesText (sym (rw ha (assigned-rows s)))) assigned)
+    (then (rw two small) (like (ap linesText (sym (rw hg (granted-rows s)))) granted)
+    (then (rw three small) sessions (like (ap linesText (sym (history-rows s))) history)))))
 
 -- ---- or a refusal
 

@@ -1,18 +1,18 @@
 -- What each refusal of a saved text says, in plain quantifiers over the text's lines. Assumes nothing.
 use Prim.Native.Nat.{ℕ, _+_, _≤_, _<_}
 use mathlib.Core.Path.{_≡_}
-use mathlib.Core.Bool.{true, false}
+use mathlib.Core.Bool.{true}
 use mathlib.Core.List.{List, [], _∷_, _++_, List·Memᴰ}
 use mathlib.Core.Logic.{_⊎_}
 use lib.ListN.{length}
-use Rattle.forms.specs.Forms.{fill, allInRange, valuesFit}
+use Rattle.forms.specs.Forms.{fill, valuesFit}
 use Rattle.forms.specs.Tables.{formAt}
 use Rattle.places.specs.Places.{onGrid}
 use Rattle.rules.specs.declared.lists.RuleList.{RuleList}
 use Rattle.enforcement.specs.States.{fresh}
 use Rattle.enforcement.specs.declared.states.State.{State}
 use Rattle.state_text.specs.Entries.{savedForms, lineText, rank, withLine}
-use Rattle.state_text.specs.Saving.{textOf}
+use Rattle.state_text.specs.Saving.{linesText}
 use Rattle.state_text.specs.Reading.{loaded, readState}
 use Rattle.state_text.specs.declared.entries.Entry.{Entry}
 use Rattle.state_text.specs.declared.entries.Entry.the-variants.{Now, Assigned, Granted, Open, Place, Active, Did}
@@ -58,9 +58,9 @@ abbrev pub EachGood : List Entry → Type 0
 EachGood lines = (earlier : List Entry) (entry : Entry) (later : List Entry) → lines ≡ earlier ++ (entry ∷ later) → GoodAfter earlier entry
 
 -- the state after lines
-abbrev pub after : State → List Entry → State
-after s [] = s
-after s (e ∷ es) = after (withLine s e) es
+abbrev pub stateAfter : State → List Entry → State
+stateAfter s [] = s
+stateAfter s (e ∷ es) = stateAfter (withLine s e) es
 
 -- ---- what is wrong with the line at the front of a text, after earlier lines
 
@@ -69,7 +69,7 @@ pub record NoForm (earlier : List Entry) (text : List ℕ) : Type 0 where
   pub isThere : (earlier ≡ []) ⊎ (0 < length text)
   pub none : (form : ℕ) (values more : List ℕ) → form < 7 → valuesFit (formAt savedForms form) values ≡ true → text ≡ fill (formAt savedForms form) values ++ more → ⊥
 
--- 11: a form with some numbers is, and a number is outside its range
+-- 11: a form with some numbers is, and a number is outside its range: no line in range is that line
 pub record OutOfRange (text : List ℕ) : Type 0 where
   pub form : ℕ
   pub values : List ℕ
@@ -77,7 +77,7 @@ pub record OutOfRange (text : List ℕ) : Type 0 where
   pub isForm : form < 7
   pub canStand : valuesFit (formAt savedForms form) values ≡ true
   pub isLine : text ≡ fill (formAt savedForms form) values ++ more
-  pub outside : allInRange (formAt savedForms form) values ≡ false
+  pub outside : (entry : Entry) (later : List ℕ) → Ranged entry → text ≡ lineText entry ++ later → ⊥
 
 -- 15: a line in range that is out of order
 pub record OutOfOrder (earlier : List Entry) (text : List ℕ) : Type 0 where
@@ -100,7 +100,7 @@ pub record Unrested (earlier : List Entry) (text : List ℕ) : Type 0 where
 pub record BadLine (Says : List Entry → List ℕ → Type 0) (text : List ℕ) (n : ℕ) : Type 0 where
   pub earlier : List Entry
   pub rest : List ℕ
-  pub whole : text ≡ textOf earlier ++ rest
+  pub whole : text ≡ linesText earlier ++ rest
   pub good : EachGood earlier
   pub place : n ≡ 1 + length earlier
   pub bad : Says earlier rest
@@ -109,9 +109,9 @@ pub record BadLine (Says : List Entry → List ℕ → Type 0) (text : List ℕ)
 pub record GoodText (text : List ℕ) (s : State) : Type 0 where
   pub lines : List Entry
   pub some : 0 < length lines
-  pub whole : text ≡ textOf lines
+  pub whole : text ≡ linesText lines
   pub good : EachGood lines
-  pub same : after fresh lines ≡ s
+  pub same : stateAfter fresh lines ≡ s
 
 -- ---- "one read from a saved text under the rules in force"
 

@@ -4,11 +4,9 @@ use mathlib.Core.Bool.{Bool, true, cond, _&&_}
 use mathlib.Core.List.{List, [], _∷_}
 use lib.ListN.{getD, set}
 use lib.Dec.{leb, eqb}
-use lib.IntN.{ℤ, pos}
-use Rattle.forms.specs.Numbers.{signedValue, signedCode}
+use Rattle.forms.specs.Numbers.{signedCode, coordinateOf}
 use Rattle.forms.specs.Forms.{fill}
 use Rattle.forms.specs.Tables.{bytes, formAt}
-use Rattle.places.specs.Places.{onGrid}
 use Rattle.places.specs.declared.Position.the-variants.{Known}
 use Rattle.enforcement.specs.States.{holdsRole, isOpen, userOf, positionOf}
 use Rattle.enforcement.specs.Steps.{withTime, withAssigned, withGranted, withSessions, withActive, withHistory, put, session}
@@ -20,10 +18,6 @@ use Rattle.state_text.specs.declared.entries.Entry.the-variants.{Now, As
 
 unfoldable pub savedForms : List ℕ
 savedForms = bytes "(now ~)\n(assigned @ $)\n(granted $ %)\n(open & @)\n(place & + +)\n(active & $)\n(did * % @)\n"
-
--- a coordinate; a value off the grid has none, and 0 stands for it
-unfoldable pub coordinateOf : ℕ → ℤ
-coordinateOf v = cond (onGrid (signedValue v)) (signedValue v) (pos 0)
 
 -- the line that a form says with its values
 unfoldable pub entryOf : ℕ → List ℕ → Entry

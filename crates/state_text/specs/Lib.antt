@@ -3,3 +3,4 @@ pub mod Saving
 pub mod Reading
 pub mod Causes
 pub mod Parts
+pub mod Words

@@ -7,22 +7,15 @@ use lib.Dec.{eqb}
 use Rattle.sets.specs.Sets.{member}
 use Rattle.rules.specs.Families.{wordAt}
 use Rattle.rules.specs.declared.sessions.Session.{Session}
-use Rattle.selection.specs.Lowest.{Lowest, unbroken, broken}
 use Rattle.enforcement.specs.declared.states.State.{State}
 use Rattle.state_text.specs.Entries.{inOrder, rests}
 use Rattle.state_text.specs.Saving.{over, only, placeLines}
 use Rattle.state_text.specs.declared.entries.Entry.{Entry}
 use Rattle.state_text.specs.declared.entries.Entry.the-variants.{Assigned, Granted, Open, Active, Did}
-use Rattle.state_text.specs.declared.judging.LowestBroken.{LowestBroken}
-use Rattle.state_text.specs.declared.judging.LowestBroken.the-variants.{Nothing, Rule}
 use Rattle.state_text.specs.declared.reading.LineRead.{LineRead}
 use Rattle.state_text.specs.declared.reading.LineRead.the-variants.{Good, Bad}
 
 -- ---- reading
-
-abbrev pub lowestOf : Lowest → LowestBroken
-lowestOf unbroken = Nothing
-lowestOf (broken n) = Rule n
 
 -- a line's order and what it rests on, after its form and ranges
 abbrev pub checkLine : ℕ → State → LineRead → LineRead

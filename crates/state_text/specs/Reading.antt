@@ -10,7 +10,9 @@ use Rattle.forms.specs.Tables.{formAt, found}
 use Rattle.forms.specs.declared.tables.Found.{Found}
 use Rattle.rules.specs.Acceptance.{rulesOf, listAccepted}
 use Rattle.rules.specs.declared.lists.RuleList.{RuleList}
-use Rattle.selection.specs.Lowest.{Lowest, unbroken, broken, lowest}
+use Rattle.steps.specs.declared.lowest.Lowest.{Lowest}
+use Rattle.steps.specs.declared.lowest.Lowest.the-variants.{Unbroken, BrokenAt}
+use Rattle.steps.specs.Lowest.{lowest}
 use Rattle.enforcement.specs.States.{fresh, ruleHolds}
 use Rattle.enforcement.specs.declared.states.State.{State}
 use Rattle.state_text.specs.Entries.{savedForms, entryOf, rank, inOrder, withLine, rests}
@@ -47,9 +49,9 @@ pub data Loading : Type 0 where
   refused : ℕ → ℕ → Loading
 
 -- line n after the state s; `later` is what follows where the line is good
-abbrev pub verdict : ℕ → ℕ → State → LineRead → Loading → Loading
-verdict n next s (Bad number) later = refused number n
-verdict n next s (Good parsed) later =
+abbrev pub lineVerdict : ℕ → ℕ → State → LineRead → Loading → Loading
+lineVerdict n next s (Bad number) later = refused number n
+lineVerdict n next s (Good parsed) later =
     cond (inOrder next (parsed .entry)) (cond (rests s (parsed .entry)) later (refused 16 n)) (refused 15 n)
 
 -- the text from line n on; the first number bounds the lines that are read
@@ -58,7 +60,7 @@ readFrom zero n next s [] = loaded s
 readFrom zero n next s (c ∷ text) = refused 10 n
 readFrom (suc bound) n next s [] = loaded s
 readFrom (suc bound) n next s (c ∷ text) =
-    verdict n next s (readLine (c ∷ text))
+    lineVerdict n next s (readLine (c ∷ text))
     (readFrom bound (suc n) (suc (rank (entryIn (readLine (c ∷ text))))) (withLine s (entryIn (readLine (c ∷ text)))) (drop (lengthIn (readLine (c ∷ text))) (c ∷ text)))
 
 -- "an empty saved text is 10 at line 1"; a line has a byte at least, so that as many lines as bytes are enough
@@ -69,8 +71,8 @@ readLines (c ∷ text) = readFrom (suc (length text)) 1 0 fresh (c ∷ text)
 -- ---- "saved state breaks a rule" is 17, with the "lowest rule"
 
 abbrev pub unlessBroken : State → Lowest → Loading
-unlessBroken s unbroken = loaded s
-unlessBroken s (broken n) = refused 17 n
+unlessBroken s Unbroken = loaded s
+unlessBroken s (BrokenAt n) = refused 17 n
 
 abbrev pub underRules : RuleList → Loading → Loading
 underRules list (loaded s) = unlessBroken s (lowest (λ rule. ruleHolds rule s) 1 (rulesOf list))

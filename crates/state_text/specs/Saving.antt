@@ -1,10 +1,9 @@
 -- Document 01, 'Texts': a state's lines in their order, its text, and what writing it gives. Assumes nothing.
 use Prim.Native.Nat.{ℕ, zero, suc}
-use mathlib.Core.Bool.{Bool, true, false, cond}
+use mathlib.Core.Bool.{Bool, true, false}
 use mathlib.Core.List.{List, [], _∷_, _++_}
-use Rattle.forms.specs.Writing.{writtenOf, lentAfter}
+use Rattle.forms.specs.Writing.{writtenIf, lentIf}
 use Rattle.forms.specs.declared.writing.Written.{Written}
-use Rattle.forms.specs.declared.writing.Written.the-variants.{Refused}
 use Rattle.places.specs.declared.Position.{Position}
 use Rattle.places.specs.declared.Position.the-variants.{Unknown, Known}
 use Rattle.enforcement.specs.States.{assignedRole, carries, isOpen, userOf, positionOf, activeRole, did, stateAccepted}
@@ -46,17 +45,17 @@ linesOf s =
 
 -- ---- its text
 
-unfoldable pub textOf : List Entry → List ℕ
-textOf [] = []
-textOf (e ∷ es) = lineText e ++ textOf es
+unfoldable pub linesText : List Entry → List ℕ
+linesText [] = []
+linesText (e ∷ es) = lineText e ++ linesText es
 
 unfoldable pub savedText : State → List ℕ
-savedText s = textOf (linesOf s)
+savedText s = linesText (linesOf s)
 
 -- ---- "in writing a text too, 40 comes before 18"
 
 unfoldable pub writtenState : State → List ℕ → Written
-writtenState s lent = cond (stateAccepted s) (writtenOf (savedText s) lent) (Refused 40)
+writtenState s lent = writtenIf (stateAccepted s) (savedText s) lent
 
 unfoldable pub lentState : State → List ℕ → List ℕ
-lentState s lent = cond (stateAccepted s) (lentAfter (savedText s) lent) lent
+lentState s lent = lentIf (stateAccepted s) (savedText s) lent

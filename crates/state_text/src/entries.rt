@@ -2,8 +2,7 @@
 ghost use mathlib.Core.Path.{_≡_};
 ghost use Prim.Native.Nat.{_+_, _*_, _<_};
 ghost use lib.ListN.{length};
-ghost use Rattle.places.specs.Places.{onGrid};
-ghost use Rattle.state_text.specs.Entries.{coordinateOf, entryOf, formOf, valuesOf, rank, follows};
+ghost use Rattle.state_text.specs.Entries.{entryOf, formOf, valuesOf, rank, follows};
 ghost use Rattle.state_text.specs.Causes.{Ranged};
 
 // The forms of a saved state, a line each; a mark stands for a number of its kind.
@@ -44,7 +43,11 @@ impl Entry {
             1 => Entry::Assigned(values[0], values[1]),
             2 => Entry::Granted(values[0], values[1]),
             3 => Entry::Open(values[0], values[1]),
-            4 => Entry::Place(values[0], coordinate(values[1]), coordinate(values[2])),
+            4 => Entry::Place(
+                values[0],
+                forms::coordinate(values[1]),
+                forms::coordinate(values[2]),
+            ),
             5 => Entry::Active(values[0], values[1]),
             _ => Entry::Did(values[0], values[1], values[2]),
         }
@@ -91,37 +94,20 @@ impl Entry {
     {
         match self {
             Entry::Now(_) => 0,
-            Entry::Assigned(user, role) => place(1, user, 32, role),
-            Entry::Granted(role, permission) => place(2049, role, 32, permission),
-            Entry::Open(session, _) => place(3073, session, 34, 0),
-            Entry::Place(session, _, _) => place(3073, session, 34, 1),
-            Entry::Active(session, role) => place(3073, session, 34, 2 + role),
+            Entry::Assigned(user, role) => column_rank(1, user, 32, role),
+            Entry::Granted(role, permission) => column_rank(2049, role, 32, permission),
+            Entry::Open(session, _) => column_rank(3073, session, 34, 0),
+            Entry::Place(session, _, _) => column_rank(3073, session, 34, 1),
+            Entry::Active(session, role) => column_rank(3073, session, 34, 2 + role),
             Entry::Did(object, permission, user) => {
-                place(4161, place(0, object, 32, permission), 64, user)
+                column_rank(4161, column_rank(0, object, 32, permission), 64, user)
             }
         }
     }
 }
 
-// A coordinate; a value off the grid has none, and 0 stands for it.
-fn coordinate(value: u64) -> i32
-    ensures { λ r. ⌜ r ≡ coordinateOf value ⌝ }
-{
-    let number = forms::signed_value(value);
-    if !on_grid(number) {
-        return 0;
-    }
-    number as i32
-}
-
-fn on_grid(z: i64) -> bool
-    ensures { λ r. ⌜ r ≡ onGrid z ⌝ }
-{
-    (-1_000_000 <= z) & (z <= 1_000_000)
-}
-
-// A column of a row, after the lines before these rows.
-fn place(start: u64, row: u64, width: u64, column: u64) -> u64
+// The rank of a column of a row, after the lines before these rows.
+fn column_rank(start: u64, row: u64, width: u64, column: u64) -> u64
     requires { ⌜ (start < 5000) × (row < 1024) × (width < 65) × (column < 64) ⌝ }
     ensures { λ r. ⌜ r ≡ start + (row * width + column) ⌝ }
 {

@@ -2,35 +2,29 @@
 ghost use mathlib.Core.Path.{_≡_};
 ghost use Prim.Native.Nat.{_≤_};
 ghost use Rattle.rules.specs.Acceptance.{rulesOf};
-ghost use Rattle.selection.specs.Lowest.{lowest};
+ghost use Rattle.steps.specs.Lowest.{lowest};
 ghost use Rattle.enforcement.specs.States.{ruleHolds};
-ghost use Rattle.state_text.specs.Parts.{lowestOf};
 use enforcement::State;
 use rules::Rule;
 use rules::RuleList;
 use rules::Tested;
-
-// The lowest broken rule, if there is one.
-pub enum LowestBroken {
-    Nothing,
-    Rule(usize),
-}
+use steps::Lowest;
 
 // The full test of each rule over the whole state, lowest first.
-pub(crate) fn lowest_broken(list: RuleList, state: State) -> LowestBroken
+pub(crate) fn lowest_broken(list: RuleList, state: State) -> Lowest
     requires { ⌜ list .length ≤ 128 ⌝ }
-    ensures { λ r. ⌜ r ≡ lowestOf (lowest (λ rule. ruleHolds rule state) 1 (rulesOf list)) ⌝ }
+    ensures { λ r. ⌜ r ≡ lowest (λ rule. ruleHolds rule state) 1 (rulesOf list) ⌝ }
 {
     let length = list.length;
     let mut i: usize = 0;
     'rules: loop {
         if i == length {
-            break 'rules LowestBroken::Nothing;
+            break 'rules Lowest::Unbroken;
         }
         let slot = list.slots[i];
         let rule = slot.rule;
         if !holds(state, rule) {
-            break 'rules LowestBroken::Rule(i + 1);
+            break 'rules Lowest::BrokenAt(i + 1);
         }
         i += 1;
     }

@@ -2,9 +2,8 @@
 ghost use mathlib.Core.Path.{_≡_};
 ghost use mathlib.Core.Bool.{true, _&&_};
 ghost use Prim.Native.Nat.{_<_};
-ghost use lib.ListN.{length, set};
+ghost use lib.ListN.{set};
 ghost use Rattle.places.specs.declared.Position.the-variants.{Known};
-ghost use Rattle.rules.specs.Families.{hasRole};
 ghost use Rattle.enforcement.specs.States.{holdsRole, isOpen, userOf, positionOf};
 ghost use Rattle.enforcement.specs.Steps.{withTime, withAssigned, withGranted, withSessions, withActive, withHistory, put, session};
 ghost use Rattle.state_text.specs.Entries.{withLine, rests};
@@ -127,22 +126,15 @@ fn is_open(state: State, i: usize) -> bool
     session.is_open
 }
 
-// The session is open for a user who holds the role.
+// The session is open for a user who holds the role. A user past the last holds none.
 fn is_held(state: State, i: usize, role: usize) -> bool
     requires { ⌜ i < 32 ⌝ }
     ensures { λ r. ⌜ r ≡ (isOpen state i && holdsRole state (userOf state i) role) ⌝ }
 {
     let session = state.sessions[i];
-    session.is_open & has_role(&state.assigned, session.user as usize, role)
-}
-
-// A user holds a role; one past the last holds none.
-fn has_role(held: &[u32; 64], user: usize, role: usize) -> bool
-    requires { ⌜ length (now held) ≡ 64 ⌝ }
-    ensures { λ r. ⌜ r ≡ hasRole (now (held .entry)) user role ⌝ }
-{
+    let user = session.user as usize;
     if 64 <= user {
         return false;
     }
-    word32::member(held[user], role)
+    session.is_open & word32::member(state.assigned[user], role)
 }

@@ -1,17 +1,16 @@
 // A saved text as a state.
 ghost use mathlib.Core.Path.{_≡_};
-ghost use Rattle.enforcement.specs.States.{fresh};
-ghost use Rattle.state_text.specs.Reading.{readLine, readLines, readState, loadedOf};
+ghost use Rattle.state_text.specs.Reading.{refused, readLine, readLines, readState, loadedOf};
 ghost use Rattle.state_text.specs.Parts.{checkLine, numberIn};
 use crate::entries::Entry;
 use crate::entries::FORMS;
 use crate::entries::follows;
-use crate::judging::LowestBroken;
 use crate::judging::lowest_broken;
 use crate::lines::rests;
 use crate::lines::with_line;
 use enforcement::State;
 use rules::RuleList;
+use steps::Lowest;
 
 // A line that was read, and its length.
 pub struct Parsed {
@@ -45,7 +44,7 @@ pub fn read_state(list: RuleList, text: &[u8]) -> LoadedState
     }
     let state = loaded.state;
     let lowest = lowest_broken(list, state);
-    let LowestBroken::Rule(rule) = lowest else {
+    let Lowest::BrokenAt(rule) = lowest else {
         return loaded;
     };
     refused(17, rule)
@@ -130,7 +129,7 @@ fn number_in(answer: LineRead) -> u64
 
 // Nothing is loaded.
 fn refused(number: u64, place: usize) -> LoadedState
-    ensures { λ r. ⌜ r ≡ record { number = number; place = place; state = fresh } ⌝ }
+    ensures { λ r. ⌜ r ≡ loadedOf (refused number place) ⌝ }
 {
     LoadedState {
         number,

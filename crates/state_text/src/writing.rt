@@ -5,7 +5,7 @@ ghost use Prim.Native.Nat.{_<_};
 ghost use lib.ListN.{length};
 ghost use Rattle.forms.specs.Writing.{Wrote};
 ghost use Rattle.state_text.specs.Entries.{lineText};
-ghost use Rattle.state_text.specs.Saving.{over, placeLines, sessionLines, textOf, savedText, writtenState, lentState};
+ghost use Rattle.state_text.specs.Saving.{over, placeLines, sessionLines, linesText, savedText, writtenState, lentState};
 ghost use Rattle.state_text.specs.Parts.{memberLine, memberLines, setLines, rowLines, historyLines, openLines, sessionParts};
 use crate::entries::Entry;
 use crate::entries::FORMS;
@@ -46,7 +46,7 @@ fn write_lines(state: State, out: &mut [u8], at: usize) -> usize
 
 // The lines of the sets of numbers below 32 that a list holds.
 fn write_rows(form: usize, words: &[u32], out: &mut [u8], at: usize) -> usize
-    ensures { λ r. ⌜ Wrote (now (out .entry)) at (textOf (over (length (now (words .entry))) (rowLines form (now (words .entry))))) r (now (out .exit)) ⌝ }
+    ensures { λ r. ⌜ Wrote (now (out .entry)) at (linesText (over (length (now (words .entry))) (rowLines form (now (words .entry))))) r (now (out .exit)) ⌝ }
 {
     let mut place = at;
     let mut i: usize = 0;
@@ -58,7 +58,7 @@ fn write_rows(form: usize, words: &[u32], out: &mut [u8], at: usize) -> usize
 }
 
 fn write_sessions(state: State, out: &mut [u8], at: usize) -> usize
-    ensures { λ r. ⌜ Wrote (now (out .entry)) at (textOf (over 32 (sessionLines state))) r (now (out .exit)) ⌝ }
+    ensures { λ r. ⌜ Wrote (now (out .entry)) at (linesText (over 32 (sessionLines state))) r (now (out .exit)) ⌝ }
 {
     let mut place = at;
     let mut i: usize = 0;
@@ -72,7 +72,7 @@ fn write_sessions(state: State, out: &mut [u8], at: usize) -> usize
 }
 
 fn write_session(i: u64, session: Session, roles: u32, out: &mut [u8], at: usize) -> usize
-    ensures { λ r. ⌜ Wrote (now (out .entry)) at (textOf (sessionParts i session roles)) r (now (out .exit)) ⌝ }
+    ensures { λ r. ⌜ Wrote (now (out .entry)) at (linesText (sessionParts i session roles)) r (now (out .exit)) ⌝ }
 {
     let after_open = write_open(i, session.is_open, session.user as u64, out, at);
     let position = session.position;
@@ -81,7 +81,7 @@ fn write_session(i: u64, session: Session, roles: u32, out: &mut [u8], at: usize
 }
 
 fn write_open(i: u64, is_open: bool, user: u64, out: &mut [u8], at: usize) -> usize
-    ensures { λ r. ⌜ Wrote (now (out .entry)) at (textOf (openLines i is_open user)) r (now (out .exit)) ⌝ }
+    ensures { λ r. ⌜ Wrote (now (out .entry)) at (linesText (openLines i is_open user)) r (now (out .exit)) ⌝ }
 {
     if is_open {
         return write_line(Entry::Open(i, user), out, at);
@@ -90,7 +90,7 @@ fn write_open(i: u64, is_open: bool, user: u64, out: &mut [u8], at: usize) -> us
 }
 
 fn write_place(i: u64, position: Position, out: &mut [u8], at: usize) -> usize
-    ensures { λ r. ⌜ Wrote (now (out .entry)) at (textOf (placeLines i position)) r (now (out .exit)) ⌝ }
+    ensures { λ r. ⌜ Wrote (now (out .entry)) at (linesText (placeLines i position)) r (now (out .exit)) ⌝ }
 {
     match position {
         Position::Unknown => at,
@@ -100,7 +100,7 @@ fn write_place(i: u64, position: Position, out: &mut [u8], at: usize) -> usize
 
 // The users of each object and permission.
 fn write_history(words: &[u64; 1024], out: &mut [u8], at: usize) -> usize
-    ensures { λ r. ⌜ Wrote (now (out .entry)) at (textOf (over 1024 (historyLines (now (words .entry))))) r (now (out .exit)) ⌝ }
+    ensures { λ r. ⌜ Wrote (now (out .entry)) at (linesText (over 1024 (historyLines (now (words .entry))))) r (now (out .exit)) ⌝ }
 {
     let mut place = at;
     let mut i: usize = 0;
@@ -113,7 +113,7 @@ fn write_history(words: &[u64; 1024], out: &mut [u8], at: usize) -> usize
 
 // The lines of a set's members: none where it is empty. The form's first numbers are the same in each, the last is the member.
 fn write_set(form: usize, first: u64, second: u64, set: u64, out: &mut [u8], at: usize) -> usize
-    ensures { λ r. ⌜ Wrote (now (out .entry)) at (textOf (setLines form first second set)) r (now (out .exit)) ⌝ }
+    ensures { λ r. ⌜ Wrote (now (out .entry)) at (linesText (setLines form first second set)) r (now (out .exit)) ⌝ }
 {
     if set == 0 {
         return at;
@@ -137,7 +137,7 @@ fn write_member(
     out: &mut [u8],
     at: usize,
 ) -> usize
-    ensures { λ r. ⌜ Wrote (now (out .entry)) at (textOf (memberLines form first second set j)) r (now (out .exit)) ⌝ }
+    ensures { λ r. ⌜ Wrote (now (out .entry)) at (linesText (memberLines form first second set j)) r (now (out .exit)) ⌝ }
 {
     if word64::member(set, j) {
         return write_line(member_line(form, first, second, j as u64), out, at);

@@ -5,20 +5,20 @@ use Prim.Native.Nat.{ℕ, _+_, _≤_}
 use native.Mathlib.Omega.{arith}
 use lib.ListN.{length, set}
 use lib.Seq.{set-out}
-use Rattle.forms.specs.Forms.{found, takenBy}
+use Rattle.forms.specs.Forms.{scannedAs, takenBy}
 use Rattle.forms.specs.declared.numbers.Number.{Number}
 use Rattle.forms.specs.declared.scanning.Scanned.{Scanned}
 use borrow.Author.Needs.{needs}
 use Rattle.forms.proofs.scanning.taken.Statement.{statement}
 use Rattle.forms.proofs.scanning.taken.Tie as tie
 
-with-slot : (a : Scanned) (b : Bool) (r : Number) → b ≡ true → takenBy a b r ≡ found (set (a .values) (a .count) (r .value)) (a .count + 1) (a .length + r .length)
+with-slot : (a : Scanned) (b : Bool) (r : Number) → b ≡ true → takenBy a b r ≡ scannedAs (set (a .values) (a .count) (r .value)) (a .count + 1) (a .length + r .length)
 with-slot a b r e = rw e
 
-full : (a : Scanned) (b : Bool) (r : Number) → b ≡ true → length (a .values) ≤ a .count → takenBy a b r ≡ found (a .values) (a .count + 1) (a .length + r .length)
+full : (a : Scanned) (b : Bool) (r : Number) → b ≡ true → length (a .values) ≤ a .count → takenBy a b r ≡ scannedAs (a .values) (a .count + 1) (a .length + r .length)
 full a b r e h = rw (e, set-out (a .values) (a .count) (r .value) h)
 
-no-slot : (a : Scanned) (b : Bool) (r : Number) → b ≡ false → takenBy a b r ≡ found (a .values) (a .count) (a .length + r .length)
+no-slot : (a : Scanned) (b : Bool) (r : Number) → b ≡ false → takenBy a b r ≡ scannedAs (a .values) (a .count) (a .length + r .length)
 no-slot a b r e = rw e
 
 add-length : tie.Need-add-length

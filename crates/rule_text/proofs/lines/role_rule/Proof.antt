@@ -3,7 +3,7 @@
 use mathlib.Core.Path.{_≡_}
 use native.Mathlib.Omega.{arith}
 use borrow.Author.Needs.{needs}
-use Rattle.rule_text.specs.Lines.{ruleOf}
+use Rattle.rule_text.specs.Lines.{ruleOfForm}
 use Rattle.rule_text.proofs.lines.role_rule.Statement.{statement}
 use Rattle.rule_text.proofs.lines.role_rule.Tie as tie
 
@@ -20,31 +20,31 @@ narrow-requires-2 : tie.Need-narrow-requires-2
 narrow-requires-2 c κs = search needs
 
 returns : tie.Need-returns
-unfolding ruleOf
+unfolding ruleOfForm
 returns c = let e : c .before .before .before .before .before .args .form ≡ 1 = omega arith in rw (c .before .before .before .narrow .ensures, c .before .narrow2 .ensures, e)
 
 returns-2 : tie.Need-returns-2
-unfolding ruleOf
+unfolding ruleOfForm
 returns-2 c = let e : c .before .before .before .before .before .args .form ≡ 2 = omega arith in rw (c .before .before .before .narrow .ensures, e)
 
 returns-3 : tie.Need-returns-3
-unfolding ruleOf
+unfolding ruleOfForm
 returns-3 c = let e : c .before .before .before .before .before .args .form ≡ 3 = omega arith in rw (c .before .before .before .narrow .ensures, c .before .narrow2 .ensures, e)
 
 returns-4 : tie.Need-returns-4
-unfolding ruleOf
+unfolding ruleOfForm
 returns-4 c = let e : c .before .before .before .before .before .args .form ≡ 4 = omega arith in rw (c .before .before .before .narrow .ensures, e)
 
 returns-5 : tie.Need-returns-5
-unfolding ruleOf
+unfolding ruleOfForm
 returns-5 c = let e : c .before .before .before .before .before .args .form ≡ 5 = omega arith in rw (c .before .before .before .narrow .ensures, c .before .narrow2 .ensures, e)
 
 returns-6 : tie.Need-returns-6
-unfolding ruleOf
+unfolding ruleOfForm
 returns-6 c = let e : c .before .before .before .before .before .args .form ≡ 6 = omega arith in rw (c .before .before .before .narrow .ensures, c .before .narrow2 .ensures, e)
 
 returns-7 : tie.Need-returns-7
-unfolding ruleOf
+unfolding ruleOfForm
 returns-7 c = let e : c .before .before .before .before .before .args .form ≡ 7 = omega arith in rw (c .before .before .before .narrow .ensures, c .before .narrow2 .ensures, e)
 
 pub role-rule-spec : {M : Type 1} → statement M

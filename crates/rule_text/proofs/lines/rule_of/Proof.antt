@@ -5,7 +5,7 @@ use Prim.Native.Nat.{_≤_}
 use native.Mathlib.Omega.{arith}
 use denote.Ref.{now}
 use borrow.Author.Needs.{needs}
-use Rattle.rule_text.specs.Lines.{ruleOf}
+use Rattle.rule_text.specs.Lines.{ruleOfForm}
 use Rattle.rule_text.proofs.Values.{past-forms}
 use Rattle.rule_text.proofs.lines.rule_of.Statement.{statement}
 use Rattle.rule_text.proofs.lines.rule_of.Tie as tie
@@ -35,27 +35,27 @@ filler-requires : tie.Need-filler-requires
 filler-requires c κs = search needs
 
 returns : tie.Need-returns
-unfolding ruleOf
+unfolding ruleOfForm
 returns c = let e : c .before .before .before .before .before .args .form ≡ 0 = omega arith in rw (c .before .before .before .narrow .ensures, c .before .narrow2 .ensures, e)
 
 returns-2 : tie.Need-returns-2
-unfolding ruleOf
+unfolding ruleOfForm
 returns-2 c = let e : c .before .before .before .before .before .args .form ≡ 17 = omega arith in rw (c .before .before .before .narrow .ensures, c .before .narrow2 .ensures, e)
 
 returns-3 : tie.Need-returns-3
-unfolding ruleOf
+unfolding ruleOfForm
 returns-3 c = let e : c .before .before .before .before .before .args .form ≡ 18 = omega arith in rw (c .before .before .before .narrow .ensures, c .before .narrow2 .ensures, e)
 
 returns-4 : tie.Need-returns-4
-unfolding ruleOf
+unfolding ruleOfForm
 returns-4 c = c .role-rule .ensures
 
 returns-5 : tie.Need-returns-5
-unfolding ruleOf
+unfolding ruleOfForm
 returns-5 c = rw (c .before .before .before .before .before .before .narrow .ensures) (c .term-of .ensures)
 
 returns-6 : tie.Need-returns-6
-unfolding ruleOf
+unfolding ruleOfForm
 returns-6 c = rw (c .before .before .before .before .before .before .before .narrow .ensures) (c .side-of .ensures)
 
 returns-7 : tie.Need-returns-7

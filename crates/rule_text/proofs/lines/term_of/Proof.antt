@@ -3,7 +3,7 @@
 use mathlib.Core.Path.{_≡_}
 use native.Mathlib.Omega.{arith}
 use borrow.Author.Needs.{needs}
-use Rattle.rule_text.specs.Lines.{ruleOf}
+use Rattle.rule_text.specs.Lines.{ruleOfForm}
 use Rattle.rule_text.proofs.lines.term_of.Statement.{statement}
 use Rattle.rule_text.proofs.lines.term_of.Tie as tie
 
@@ -32,23 +32,23 @@ narrow-requires-4 : tie.Need-narrow-requires-4
 narrow-requires-4 c κs = search needs
 
 returns : tie.Need-returns
-unfolding ruleOf
+unfolding ruleOfForm
 returns c = let e : c .before .before .before .before .before .args .form ≡ 8 = omega arith in rw (c .before .before .before .narrow .ensures, c .before .narrow2 .ensures, e)
 
 returns-2 : tie.Need-returns-2
-unfolding ruleOf
+unfolding ruleOfForm
 returns-2 c = let start = c .before .before .before .before .before in let e : start .before .before .before .before .args .form ≡ 9 = omega arith in rw (start .before .before .narrow .ensures, start .narrow2 .ensures, c .before .before .narrow3 .ensures, c .narrow4 .ensures, e)
 
 returns-3 : tie.Need-returns-3
-unfolding ruleOf
+unfolding ruleOfForm
 returns-3 c = let e : c .before .before .before .before .before .args .form ≡ 10 = omega arith in rw (c .before .before .before .narrow .ensures, c .before .narrow2 .ensures, e)
 
 returns-4 : tie.Need-returns-4
-unfolding ruleOf
+unfolding ruleOfForm
 returns-4 c = let e : c .before .before .before .before .before .args .form ≡ 11 = omega arith in rw (c .before .before .before .narrow .ensures, c .before .narrow2 .ensures, e)
 
 returns-5 : tie.Need-returns-5
-unfolding ruleOf
+unfolding ruleOfForm
 returns-5 c = let e : c .before .before .before .before .before .args .form ≡ 12 = omega arith in rw (c .before .before .before .narrow .ensures, c .before .narrow2 .ensures, e)
 
 pub term-of-spec : {M : Type 1} → statement M

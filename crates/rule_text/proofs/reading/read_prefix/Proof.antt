@@ -28,11 +28,11 @@ enum-known-answer c = search needs
 enum-told : tie.Need-enum-told Inv-loop μ-loop
 enum-told c = search needs
 
-refusal-requires : tie.Need-refusal-requires Inv-loop μ-loop
-refusal-requires c κs = search needs
+number-in-requires : tie.Need-number-in-requires Inv-loop μ-loop
+number-in-requires c κs = search needs
 
 returns : tie.Need-returns Inv-loop μ-loop
-returns c = let l = c .before .before .before .before .before .loop in let r = c .before .before .before .read-line in stop (l .inv) (omega arith) (r .ensures) (c .before .enum-told .given .1) (c .refusal .ensures)
+returns c = let l = c .before .before .before .before .before .loop in let r = c .before .before .before .read-line in stop (l .inv) (omega arith) (r .ensures) (c .before .enum-told .given .1) (c .number-in .ensures)
 
 with-rule-requires : tie.Need-with-rule-requires Inv-loop μ-loop
 with-rule-requires c κs = let l = c .before .before .before .before .before .loop in let r = c .before .before .before .read-line in let g = c .before .answer .given in omega (arith, l .inv .counted, small (l .inv) (omega arith) (r .ensures) (g .1))
@@ -72,7 +72,7 @@ read-prefix-spec =
     read-line-requires
     enum-known-answer
     enum-told
-    refusal-requires
+    number-in-requires
     returns
     with-rule-requires
     sub-rest

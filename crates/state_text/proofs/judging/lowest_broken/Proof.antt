@@ -9,8 +9,8 @@ use lib.ListN.{length, length-map}
 use Rattle.rules.specs.Acceptance.{every}
 use Rattle.rules.proofs.Every.{everyFirst, every-next}
 use Rattle.enforcement.specs.States.{ruleHolds}
-use Rattle.state_text.specs.Parts.{lowestOf}
-use Rattle.state_text.proofs.Lowest.{every-unbroken, lowest-stop}
+use Rattle.steps.specs.declared.lowest.Lowest.the-variants.{BrokenAt}
+use Rattle.state_text.proofs.LowestRule.{every-unbroken, lowest-stop}
 use borrow.Author.Needs.{needs}
 use Rattle.state_text.proofs.judging.lowest_broken.Statement.{statement}
 use Rattle.state_text.proofs.judging.lowest_broken.Tie as tie
@@ -58,15 +58,15 @@ rules-again c = (
 returns : tie.Need-returns Inv-rules μ-rules
 returns c =
     let done : c .before .rules .i ≡ c .before .before .args .t1 .length = c .if1 .taken in
-    sym (ap lowestOf (every-unbroken (λ rule. ruleHolds rule (c .before .before .args .state)) 1 _ (rw done at (c .before .rules .inv .1))))
+    sym (every-unbroken (λ rule. ruleHolds rule (c .before .before .args .state)) 1 _ (rw done at (c .before .rules .inv .1)))
 
 returns-2 : tie.Need-returns-2 Inv-rules μ-rules
 returns-2 c =
     let start = c .before .before .before .before .before in
     let i = c .before .before .before .before .rules .i in
     let e : 1 + i ≡ i + 1 = omega arith in
-    sym (ap lowestOf (lowest-stop (λ rule. ruleHolds rule (start .args .state)) (start .args .t1 .slots) 1 (start .args .t1 .length) i _ (search needs) (omega (arith, slots-length start))
-    (c .before .before .before .before .rules .inv .1) (sym (c .before .holds .ensures) ∙ not-true _ (c .if2 .taken)) ∙ ap Rattle.selection.specs.Lowest.broken e))
+    sym (lowest-stop (λ rule. ruleHolds rule (start .args .state)) (start .args .t1 .slots) 1 (start .args .t1 .length) i _ (search needs) (omega (arith, slots-length start))
+    (c .before .before .before .before .rules .inv .1) (sym (c .before .holds .ensures) ∙ not-true _ (c .if2 .taken)) ∙ ap BrokenAt e)
 
 pub lowest-broken-spec : {M : Type 1} → statement M
 lowest-broken-spec =

@@ -3,7 +3,7 @@
 use mathlib.Core.Path.{subst}
 use native.Mathlib.Omega.{arith}
 use mir.ValLaws.{toZ-ofZ}
-use Rattle.enforcement.proofs.Grid.{grid-fits}
+use Rattle.places.proofs.Grid.{grid-fits}
 use Rattle.state_text.specs.Entries.{withLine}
 use Rattle.state_text.specs.Causes.{Ranged}
 use borrow.Author.Needs.{needs}

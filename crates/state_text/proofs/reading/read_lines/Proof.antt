@@ -2,13 +2,13 @@
 -- Assumes nothing.
 use native.Mathlib.Omega.{arith}
 use lib.ListN.{length}
-use Rattle.state_text.proofs.Loads.{Left, none, start, bad-line, ranged, small, within, less, turn, end}
+use Rattle.state_text.proofs.Loads.{Unread, none, start, bad-line, ranged, small, within, less, turn, end}
 use borrow.Author.Needs.{needs}
 use Rattle.state_text.proofs.reading.read_lines.Statement.{statement}
 use Rattle.state_text.proofs.reading.read_lines.Tie as tie
 
 abbrev Inv-loop : tie.InvT-loop
-Inv-loop text state₀ rest₀ line₀ next₀ state rest line next = Left text state rest line next
+Inv-loop text state₀ rest₀ line₀ next₀ state rest line next = Unread text state rest line next
 
 abbrev μ-loop : tie.MeasureT-loop
 μ-loop text state₀ rest₀ line₀ next₀ state rest line next = length rest

@@ -1,11 +1,11 @@
--- `state_text::entries::place` meets its contract.
+-- `state_text::entries::column_rank` meets its contract.
 -- Assumes nothing.
 use native.Mathlib.Omega.{arith}
 use native.Mathlib.Nat.{mul-le-mul}
 use Prim.Native.Nat.{_*_, _≤_}
 use borrow.Author.Needs.{needs}
-use Rattle.state_text.proofs.entries.place.Statement.{statement}
-use Rattle.state_text.proofs.entries.place.Tie as tie
+use Rattle.state_text.proofs.entries.column_rank.Statement.{statement}
+use Rattle.state_text.proofs.entries.column_rank.Tie as tie
 
 product : (c : tie.Start) → c .args .row * c .args .width ≤ 1023 * 64
 product c = let r : c .args .row ≤ 1023 = omega arith in let w : c .args .width ≤ 64 = omega arith in mul-le-mul r w
@@ -22,5 +22,5 @@ add-result-2 c = omega (arith, product c)
 returns : tie.Need-returns
 returns c = search needs
 
-pub place-spec : {M : Type 1} → statement M
-place-spec = tie.close (tie.spec mul-result add-result add-result-2 returns)
+pub column-rank-spec : {M : Type 1} → statement M
+column-rank-spec = tie.close (tie.spec mul-result add-result add-result-2 returns)

@@ -1,17 +1,17 @@
--- `state_text::entries::coordinate` meets its contract.
+-- `forms::numbers::coordinate` meets its contract.
 -- Assumes nothing.
 use mathlib.Core.Path.{_≡_, sym, ap, _∙_}
 use mir.Syntax.{w32, w64}
 use mir.Val.{toZ, ofZ}
 use mir.ValLaws.{toZ-ofZ}
 use borrow.Author.Tests.{not-true, not-false}
 use Rattle.forms.specs.Numbers.{signedValue}
 use Rattle.places.specs.Places.{onGrid}
-use Rattle.enforcement.proofs.Grid.{grid-fits}
-use Rattle.state_text.proofs.Values.{coordinate-off, coordinate-on}
+use Rattle.places.proofs.Grid.{grid-fits}
+use Rattle.forms.proofs.Coordinates.{coordinate-off, coordinate-on}
 use borrow.Author.Needs.{needs}
-use Rattle.state_text.proofs.entries.coordinate.Statement.{statement}
-use Rattle.state_text.proofs.entries.coordinate.Tie as tie
+use Rattle.forms.proofs.numbers.coordinate.Statement.{statement}
+use Rattle.forms.proofs.numbers.coordinate.Tie as tie
 
 signed-value-requires : tie.Need-signed-value-requires
 signed-value-requires c κs = search needs
