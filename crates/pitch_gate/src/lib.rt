@@ -8,7 +8,7 @@ ghost use Rattle.enforcement.specs.States.{fresh};
 ghost use Rattle.rule_text.specs.Reading.{readLines, loadedOf};
 ghost use Rattle.state_text.specs.Saving.{savedText};
 ghost use Rattle.texts.specs.Response.{responseOf};
-ghost use Rattle.texts.specs.SavedRuns.{loadTexts, refusedReport, writtenReport, savedReport, stateIn, copyReport, savedOutcome};
+ghost use Rattle.texts.specs.SavedRuns.{loadTexts, savedReport, stateIn, copyReport, savedOutcome};
 ghost use Rattle.pitch_gate.specs.Reports.{partNumber, Told, Given, Handed, responseReport, readReport, rulesReport, textsReport};
 use forms::Written;
 use texts::Part;
@@ -83,8 +83,8 @@ fn response_report(written: Written) -> Report
     ensures { λ r. ⌜ r ≡ responseReport written ⌝ }
 {
     match written {
-        Written::Length(length) => written_report(length),
-        Written::Refused(number) => refused_report(Part::AnswersSpace, number, 0),
+        Written::Length(length) => texts::written_report(length, 0),
+        Written::Refused(number) => texts::refused_report(Part::AnswersSpace, number, 0),
     }
 }
 
@@ -92,33 +92,9 @@ fn read_report(part: Part, number: u64, place: usize) -> Report
     ensures { λ r. ⌜ r ≡ readReport part number place ⌝ }
 {
     if number == 0 {
-        return written_report(0);
+        return texts::written_report(0, 0);
     }
-    refused_report(part, number, place)
-}
-
-fn written_report(answers: usize) -> Report
-    ensures { λ r. ⌜ r ≡ writtenReport answers 0 ⌝ }
-{
-    Report {
-        part: Part::Nothing,
-        number: 0,
-        place: 0,
-        answers,
-        state: 0,
-    }
-}
-
-fn refused_report(part: Part, number: u64, place: usize) -> Report
-    ensures { λ r. ⌜ r ≡ refusedReport part number place ⌝ }
-{
-    Report {
-        part,
-        number,
-        place,
-        answers: 0,
-        state: 0,
-    }
+    texts::refused_report(part, number, place)
 }
 
 // The number is returned, the rest goes to the four lent numbers.

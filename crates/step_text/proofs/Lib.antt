@@ -1,4 +1,6 @@
 pub mod Stepping
 pub mod Runs
 pub mod Sizes
+pub mod Rows
 pub mod Causes
+pub mod Printed

@@ -9,8 +9,8 @@ use lib.ListN.{length, drop}
 use Rattle.rules.specs.declared.lists.RuleList.{RuleList}
 use Rattle.enforcement.specs.Gate.{stepOf, runOf}
 use Rattle.enforcement.specs.declared.states.State.{State}
-use Rattle.enforcement.specs.declared.steps.Step.{Step}
-use Rattle.enforcement.specs.declared.steps.Next.{Next}
+use Rattle.steps.specs.declared.steps.Step.{Step}
+use Rattle.enforcement.specs.declared.states.Next.{Next}
 use Rattle.step_text.specs.Lines.{readStep, StepsRead, steps, bad, onto, lineLength, after, readFrom, readSteps, badLine}
 use Rattle.step_text.specs.Running.{lineRun, runFrom, textRun}
 use Rattle.step_text.specs.declared.lines.StepRead.{StepRead}

@@ -17,11 +17,11 @@ use Rattle.forms.proofs.Puts.{digits-length, fill-least}
 use Rattle.rules.specs.declared.lists.RuleList.{RuleList}
 use Rattle.enforcement.specs.Reached.{Accepted}
 use Rattle.enforcement.specs.Gate.{stepOf, runOf}
-use Rattle.enforcement.specs.Words.{wordOf, answerOf}
+use Rattle.steps.specs.Answers.{wordOf, answerOf}
 use Rattle.enforcement.specs.declared.states.State.{State}
-use Rattle.enforcement.specs.declared.steps.Step.{Step}
-use Rattle.enforcement.specs.declared.steps.Answer.{Answer}
-use Rattle.enforcement.specs.declared.steps.Answer.the-variants.{Granted, Broken, Refused}
+use Rattle.steps.specs.declared.steps.Step.{Step}
+use Rattle.steps.specs.declared.answers.Answer.{Answer}
+use Rattle.steps.specs.declared.answers.Answer.the-variants.{Granted, Broken, Refused}
 use Rattle.enforcement.proofs.AnswerFits.{answer-back}
 use Rattle.enforcement.proofs.Reaching.{step-accepted}
 use Rattle.step_text.specs.Lines.{stepForms, formCount, stepFrom, lineAfter, readStep, StepsRead, steps, bad, onto, lineLength, after, readFrom, readSteps, badLine}

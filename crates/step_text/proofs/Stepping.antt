@@ -22,7 +22,7 @@ use Rattle.rules.specs.declared.lists.RuleList.{RuleList}
 use Rattle.enforcement.specs.Gate.{stepOf}
 use Rattle.enforcement.specs.Runs.{lastState}
 use Rattle.enforcement.specs.declared.states.State.{State}
-use Rattle.enforcement.specs.declared.steps.Next.{Next}
+use Rattle.enforcement.specs.declared.states.Next.{Next}
 use Rattle.step_text.specs.Lines.{stepForms, formCount, stepFrom, lineAfter, readStep, StepsRead, steps, bad, onto, lineLength, after, readFrom, readSteps, badLine}
 use Rattle.step_text.specs.Answers.{answerText, answersText}
 use Rattle.step_text.specs.Running.{followed, lineRun, runFrom, textRun}

@@ -4,9 +4,9 @@ use Prim.Native.Nat.{ℕ}
 use mathlib.Core.List.{List, [], _∷_, _++_}
 use Rattle.forms.specs.Forms.{fill}
 use Rattle.forms.specs.Tables.{bytes, formAt}
-use Rattle.enforcement.specs.declared.steps.Answer.{Answer}
-use Rattle.enforcement.specs.declared.steps.Answer.the-variants.{Granted, Broken, Refused}
-use Rattle.enforcement.specs.declared.steps.Next.{Next}
+use Rattle.steps.specs.declared.answers.Answer.{Answer}
+use Rattle.steps.specs.declared.answers.Answer.the-variants.{Granted, Broken, Refused}
+use Rattle.enforcement.specs.declared.states.Next.{Next}
 
 unfoldable pub answerForms : List ℕ
 answerForms = bytes "(yes ? ?)\n" ++ bytes "(no ? ? ?)\n" ++ bytes "(bad ? ?)\n"

@@ -8,7 +8,7 @@ use lib.Dec.{eqb}
 use Rattle.forms.specs.Numbers.{signedValue}
 use Rattle.forms.specs.Tables.{bytes, found}
 use Rattle.forms.specs.declared.tables.Found.{Found}
-use Rattle.enforcement.specs.declared.steps.Step.{Step}
+use Rattle.steps.specs.declared.steps.Step.{Step}
 use Rattle.step_text.specs.declared.lines.StepLine.{StepLine}
 use Rattle.step_text.specs.declared.lines.StepRead.{StepRead}
 use Rattle.step_text.specs.declared.lines.StepRead.the-variants.{Good, Bad}

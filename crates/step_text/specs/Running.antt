@@ -7,7 +7,7 @@ use lib.ListN.{length, drop}
 use Rattle.rules.specs.declared.lists.RuleList.{RuleList}
 use Rattle.enforcement.specs.Gate.{stepOf}
 use Rattle.enforcement.specs.declared.states.State.{State}
-use Rattle.enforcement.specs.declared.steps.Next.{Next}
+use Rattle.enforcement.specs.declared.states.Next.{Next}
 use Rattle.step_text.specs.Lines.{readStep, lineLength}
 use Rattle.step_text.specs.declared.lines.StepRead.{StepRead}
 use Rattle.step_text.specs.declared.lines.StepRead.the-variants.{Good, Bad}

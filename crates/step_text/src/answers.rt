@@ -2,7 +2,7 @@
 ghost use mathlib.Core.Path.{_≡_};
 ghost use Rattle.forms.specs.Writing.{Wrote};
 ghost use Rattle.step_text.specs.Answers.{lineText, answerText, badText};
-use enforcement::Answer;
+use steps::Answer;
 
 const FORMS: [u8; 31] = *b"\
 (yes ? ?)\n\

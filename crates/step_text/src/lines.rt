@@ -1,7 +1,7 @@
 // A step's line.
 ghost use mathlib.Core.Path.{_≡_};
 ghost use Rattle.step_text.specs.Lines.{readStep};
-use enforcement::Step;
+use steps::Step;
 
 // "One form a line", in the order of the table of steps; each mark stands for a number of its kind.
 const FORMS: [u8; 162] = *b"\

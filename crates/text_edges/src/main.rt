@@ -7,7 +7,7 @@ mod ranges;
 mod rule_lists;
 mod saved;
 mod showing;
-mod steps;
+mod step_lines;
 mod writers;
 
 fn main() {
@@ -15,7 +15,7 @@ fn main() {
     ranges::all();
     saved::all();
     inputs::all();
-    steps::all();
+    step_lines::all();
     long::all();
     writers::all();
 }

@@ -4,8 +4,9 @@
 use mathlib.Core.Path.{_≡_, refl, sym, ap, _∙_, subst}
 use mathlib.Core.Bool.{Bool, true, false, cond}
 use mathlib.Core.List.{List, [], _∷_, _++_, append-assoc}
-use Prim.Native.Nat.{ℕ, _≤_}
-use lib.ListN.{length}
+use Prim.Native.Nat.{ℕ, _+_, _≤_}
+use native.Mathlib.Omega.{arith}
+use lib.ListN.{length, length-append}
 use lib.Dec.{eqb, ltb}
 use borrow.Author.Tests.{ltb-false}
 use Rattle.rules.specs.Acceptance.{listAccepted}
@@ -14,11 +15,11 @@ use Rattle.enforcement.specs.Gate.{stepOf, runOf}
 use Rattle.enforcement.specs.Runs.{lastState}
 use Rattle.enforcement.specs.Reached.{Reached, read, stepped}
 use Rattle.enforcement.specs.declared.states.State.{State}
-use Rattle.enforcement.specs.declared.steps.Step.{Step}
-use Rattle.enforcement.specs.declared.steps.Next.{Next}
+use Rattle.steps.specs.declared.steps.Step.{Step}
+use Rattle.enforcement.specs.declared.states.Next.{Next}
+use Rattle.enforcement.proofs.Callers.{run-append}
 use Rattle.enforcement.proofs.Reaching.{Good, reached-good}
 use Rattle.rule_text.specs.Reading as ruleText
-use Rattle.rule_text.specs.declared.reading.LoadedRules.{LoadedRules}
 use Rattle.rule_text.proofs.Back as ruleBack
 use Rattle.state_text.specs.Reading.{Loading, loaded, refused, readState}
 use Rattle.state_text.specs.Saving.{savedText}
@@ -26,6 +27,7 @@ use Rattle.state_text.proofs.RoundTrips.{write-back, read-accepted, good-back}
 use Rattle.state_text.proofs.Same.{unequal}
 use Rattle.step_text.specs.Lines.{StepsRead, steps, bad, readSteps}
 use Rattle.step_text.specs.Answers.{answerText, answersText}
+use Rattle.step_text.proofs.Causes.{steps-joined}
 use Rattle.texts.specs.SavedRuns.{Texts, holding, refusedIn, stateUnder, rulesFirst, loadTexts, rulesIn, stateIn, SavedOutcome, ranFrom, refusedAt, stepsUnder, stepsAfter, savedOutcome, answersOf, stateOf}
 use Rattle.texts.specs.declared.saved_runs.Part.the-variants as part
 use Rattle.texts.proofs.SavedRunning.{texts-held}
@@ -91,11 +93,6 @@ ran-means rules saved text list s given h = by-length (ltb 65536 (length text)) 
 -- ---- two runs, one after the other
 
 module _ (list : RuleList) where
-  run-append : (s : State) (a b : List Step) → runOf list s (a ++ b) ≡ runOf list s a ++ runOf list (lastState s (runOf list s a)) b
-  unfolding runOf lastState
-  run-append s [] b = refl
-  run-append s (step ∷ a) b = ap (λ (run : List Next). stepOf list s step ∷ run) (run-append (stepOf list s step .state) a b)
-
   reached-last : (Read : State → Type 0) (s : State) (a : List Step) → Reached list Read s → Reached list Read (lastState s (runOf list s a))
   unfolding runOf lastState
   reached-last Read s [] h = h
@@ -138,17 +135,32 @@ module _ (rules saved first : List ℕ) (list : RuleList) (s : State) (a : List 
         stateRead = ap (λ (l : RuleList). readState l (savedText after)) (there .sameList) ∙ good-back list listed after (good-last list listed s a good);
       }))
 
-  -- and the two runs are one: over any text whose steps are those of the first and then those of the second
-  pub handed-over : (second whole : List ℕ) (b : List Step) → readSteps 1 second ≡ steps b → length second ≤ 65536 → readSteps 1 whole ≡ steps (a ++ b) → length whole ≤ 65536
-      → (answersOf (savedOutcome rules saved whole) ≡ answersOf (savedOutcome rules saved first) ++ answersOf (savedOutcome rules (stateOf (savedOutcome rules saved first)) second))
-      × (stateOf (savedOutcome rules saved whole) ≡ stateOf (savedOutcome rules (stateOf (savedOutcome rules saved first)) second))
-  unfolding answersOf stateOf
-  handed-over second whole b readSecond shortSecond readWhole shortWhole =
-      let one : savedOutcome rules saved whole ≡ ranFrom list s (a ++ b) = texts-held rules saved whole shortWhole (ran-first .texts) ∙ ap (stepsUnder list s) readWhole ∙ unfold stepsUnder in refl in
-      let two : savedOutcome rules (stateOf (savedOutcome rules saved first)) second ≡ ranFrom list after b =
-      texts-held rules (stateOf (savedOutcome rules saved first)) second shortSecond state-handed-over ∙ ap (stepsUnder list after) readSecond ∙ unfold stepsUnder in refl in (
-        ap answersOf one ∙ ap answersText (run-append list s a b) ∙ answers-append (runOf list s a) (runOf list after b)
-            ∙ sym (ap (λ (o : SavedOutcome). answersOf o ++ answersText (runOf list after b)) h)
-            ∙ sym (ap (λ (o : SavedOutcome). answersOf (savedOutcome rules saved first) ++ answersOf o) two),
-        ap stateOf one ∙ ap (λ (run : List Next). savedText (lastState s run)) (run-append list s a b) ∙ ap savedText (last-append s (runOf list s a) (runOf list after b)) ∙ sym (ap stateOf two),
-      )
+  module _ (second : List ℕ) (b : List Step) (readSecond : readSteps 1 second ≡ steps b) where
+    goes-on : length second ≤ 65536 → savedOutcome rules (stateOf (savedOutcome rules saved first)) second ≡ ranFrom list after b
+    goes-on short =
+        texts-held rules (stateOf (savedOutcome rules saved first)) second short state-handed-over ∙ ap (stepsUnder list after) readSecond ∙ unfold stepsUnder in refl
+
+    -- and the two runs are one: the gate's run over all the steps, however many
+    pub handed-over : length second ≤ 65536
+        → (answersOf (savedOutcome rules saved first) ++ answersOf (savedOutcome rules (stateOf (savedOutcome rules saved first)) second) ≡ answersText (runOf list s (a ++ b)))
+        × (stateOf (savedOutcome rules (stateOf (savedOutcome rules saved first)) second) ≡ savedText (lastState s (runOf list s (a ++ b))))
+    unfolding answersOf stateOf
+    handed-over short =
+        let two = goes-on short in (
+          ap (λ (o : SavedOutcome). answersOf o ++ answersOf (savedOutcome rules (stateOf (savedOutcome rules saved first)) second)) h
+              ∙ ap (λ (o : SavedOutcome). answersText (runOf list s a) ++ answersOf o) two
+              ∙ sym (ap answersText (run-append list s a b) ∙ answers-append (runOf list s a) (runOf list after b)),
+          ap stateOf two ∙ sym (ap (λ (run : List Next). savedText (lastState s run)) (run-append list s a b) ∙ ap savedText (last-append s (runOf list s a) (runOf list after b))),
+        )
+
+    -- which is, where it is short enough, the run over the one text and then the other
+    pub handed-over-as-one : length (first ++ second) ≤ 65536
+        → (answersOf (savedOutcome rules saved (first ++ second)) ≡ answersOf (savedOutcome rules saved first) ++ answersOf (savedOutcome rules (stateOf (savedOutcome rules saved first)) second))
+        × (stateOf (savedOutcome rules saved (first ++ second)) ≡ stateOf (savedOutcome rules (stateOf (savedOutcome rules saved first)) second))
+    unfolding answersOf stateOf
+    handed-over-as-one short =
+        let whole : readSteps 1 (first ++ second) ≡ steps (a ++ b) = steps-joined 1 1 1 first second a b (ran-first .stepsRead) readSecond in
+        let one : savedOutcome rules saved (first ++ second) ≡ ranFrom list s (a ++ b) =
+        texts-held rules saved (first ++ second) short (ran-first .texts) ∙ ap (stepsUnder list s) whole ∙ unfold stepsUnder in refl in
+        let both = handed-over (omega (arith, length-append first second)) in
+        (ap answersOf one ∙ sym (both .0), ap stateOf one ∙ sym (both .1))

@@ -13,11 +13,11 @@ use Rattle.forms.specs.declared.writing.Written.{Written}
 use Rattle.forms.specs.declared.writing.Written.the-variants.{Length, Refused}
 use Rattle.rules.specs.Acceptance.{listAccepted}
 use Rattle.rules.specs.declared.lists.RuleList.{RuleList}
-use Rattle.enforcement.specs.declared.steps.Step.{Step}
+use Rattle.steps.specs.declared.steps.Step.{Step}
 use Rattle.rule_text.specs.Reading.{LinesRead, readLines, listOf, prefixOf}
 use Rattle.rule_text.proofs.Back.{prefix-accepted}
 use Rattle.step_text.specs.Lines.{StepsRead, steps, bad, readSteps}
-use Rattle.texts.specs.Response.{startsSteps, Outcome, badAt, ran, stepsOutcome, numberOf, afterRules, outcomeOf, outcomeText, responseOf}
+use Rattle.texts.specs.Response.{startsSteps, Outcome, badAt, ran, stepsOutcome, numberWithoutSteps, afterRules, outcomeOf, outcomeText, responseOf}
 use Rattle.texts.proofs.Responding.{number-small, response-short}
 
 -- ---- 18
@@ -51,8 +51,8 @@ unfolding afterRules
 late-after input = go (startsSteps (drop (readLines input .length) input)) (readSteps 1 (drop 8 (drop (readLines input .length) input)))
   where
     go : (b : Bool) (r : StepsRead)
-        → isLate (cond b (stepsOutcome (listOf (readLines input .rules)) (suc (length (readLines input .rules))) r) (badAt (numberOf (readLines input .number)) (suc (length (readLines input .rules))))) ≡ true
-    go false r = lt-ltb (numberOf (readLines input .number)) 19 (omega (arith, number-small input))
+        → isLate (cond b (stepsOutcome (listOf (readLines input .rules)) (suc (length (readLines input .rules))) r) (badAt (numberWithoutSteps (readLines input .number)) (suc (length (readLines input .rules))))) ≡ true
+    go false r = lt-ltb (numberWithoutSteps (readLines input .number)) 19 (omega (arith, number-small input))
     go true (steps read) = unfold stepsOutcome in refl
     go true (bad k) = unfold stepsOutcome in refl
 
@@ -91,7 +91,7 @@ ran-accepted input list read e =
     accepted = unfold prefixOf in prefix-accepted input
 
     go : (x y : Bool) (r : StepsRead)
-        → cond x (badAt 19 0) (cond y (stepsOutcome (listOf (readLines input .rules)) (suc (length (readLines input .rules))) r) (badAt (numberOf (readLines input .number)) (suc (length (readLines input .rules))))) ≡ ran list read
+        → cond x (badAt 19 0) (cond y (stepsOutcome (listOf (readLines input .rules)) (suc (length (readLines input .rules))) r) (badAt (numberWithoutSteps (readLines input .number)) (suc (length (readLines input .rules))))) ≡ ran list read
         → listAccepted list ≡ true
     go true y r h = absurd (false≢true (ap isRan h))
     go false false r h = absurd (false≢true (ap isRan h))

@@ -30,15 +30,15 @@ use Rattle.step_text.specs.Answers.{badText, answersText}
 use Rattle.step_text.specs.Running.{textRun}
 use Rattle.step_text.proofs.Runs.{Runs, answers-run, Positive, positive}
 use Rattle.step_text.proofs.Sizes.{Sized, sized, answers-short, bad-short}
-use Rattle.texts.specs.Response.{stepsForm, startsSteps, Outcome, badAt, ran, stepsOutcome, numberOf, afterRules, outcomeOf, outcomeText, responseOf}
+use Rattle.texts.specs.Response.{stepsForm, startsSteps, Outcome, badAt, ran, stepsOutcome, numberWithoutSteps, afterRules, outcomeOf, outcomeText, responseOf}
 
 -- ---- the line `(steps)`
 
-steps-distinct : distinct (linesIn stepsForm) ≡ true
+pub steps-distinct : distinct (linesIn stepsForm) ≡ true
 unfolding stepsForm linesIn isSlot kindOf lookup isDigit
 steps-distinct = refl
 
-steps-one : length (linesIn stepsForm) ≡ 1
+pub steps-one : length (linesIn stepsForm) ≡ 1
 unfolding stepsForm linesIn
 steps-one = refl
 
@@ -123,15 +123,15 @@ pub too-long : (input : List ℕ) → 65536 < length input → responseOf input 
 unfolding outcomeOf outcomeText
 too-long input h = rw (lt-ltb 65536 (length input) h)
 
-not-too-long : (input : List ℕ) → length input ≤ 65536 → outcomeOf input ≡ afterRules (readLines input) (drop (readLines input .length) input)
+pub not-too-long : (input : List ℕ) → length input ≤ 65536 → outcomeOf input ≡ afterRules (readLines input) (drop (readLines input .length) input)
 unfolding outcomeOf
 not-too-long input h = rw (le-ltb 65536 (length input) h)
 
-without-steps : (lines : LinesRead) (text : List ℕ) → startsSteps text ≡ false → afterRules lines text ≡ badAt (numberOf (lines .number)) (suc (length (lines .rules)))
+pub without-steps : (lines : LinesRead) (text : List ℕ) → startsSteps text ≡ false → afterRules lines text ≡ badAt (numberWithoutSteps (lines .number)) (suc (length (lines .rules)))
 unfolding afterRules
 without-steps lines text h = rw h
 
-with-steps : (lines : LinesRead) (text : List ℕ) → startsSteps text ≡ true
+pub with-steps : (lines : LinesRead) (text : List ℕ) → startsSteps text ≡ true
     → afterRules lines text ≡ stepsOutcome (listOf (lines .rules)) (suc (length (lines .rules))) (readSteps 1 (drop 8 text))
 unfolding afterRules
 with-steps lines text h = rw h
@@ -141,7 +141,7 @@ module _ (input : List ℕ) (h : length input ≤ 65536) (prefix : Prefix) (e : 
   left : l ≡ drop (readLines input .length) input
   left = p ∙ remaining input prefix e
 
-  pub response-without : (number : ℕ) → number ≡ numberOf (prefix .number) → startsSteps l ≡ false → responseOf input ≡ badText number (prefix .line)
+  pub response-without : (number : ℕ) → number ≡ numberWithoutSteps (prefix .number) → startsSteps l ≡ false → responseOf input ≡ badText number (prefix .line)
   unfolding outcomeText
   response-without number n f =
       ap outcomeText (not-too-long input h ∙ without-steps (readLines input) (drop (readLines input .length) input) (subst (λ (x : List ℕ). startsSteps x ≡ false) left f))
@@ -169,8 +169,8 @@ cause-small (not-next m rule stands other) = omega arith
 cause-small (same-twice rule stands twice) = omega arith
 cause-small (unsound rule stands distinct sound) = omega arith
 
-pub number-small : (input : List ℕ) → numberOf (readLines input .number) < 15
-unfolding numberOf
+pub number-small : (input : List ℕ) → numberWithoutSteps (readLines input .number) < 15
+unfolding numberWithoutSteps
 number-small input = go (reads-lines input .stops)
   where
     small : (n : ℕ) → n < 15 → cond (eqb n 0) 10 n < 15
@@ -199,4 +199,4 @@ response-short input = go (ltb 65536 (length input)) refl (startsSteps (drop (re
         rw (with-steps (readLines input) (drop (readLines input .length) input) q) short
     go false p false q =
         rw (without-steps (readLines input) (drop (readLines input .length) input) q)
-        (line-short (numberOf (readLines input .number)) (suc (length (readLines input .rules))) (omega (arith, number-small input)) (omega (arith, lines-few input)))
+        (line-short (numberWithoutSteps (readLines input .number)) (suc (length (readLines input .rules))) (omega (arith, number-small input)) (omega (arith, lines-few input)))

@@ -9,14 +9,16 @@ use lib.Dec.{eqb, ltb, leb}
 use borrow.Author.Tests.{lt-ltb, le-ltb, le-leb, lt-leb, leb-true, leb-false, eqb-true, eqb-false, eq-eqb, ne-eqb}
 use Rattle.rules.specs.Acceptance.{rulesOf, listAccepted}
 use Rattle.rules.specs.declared.lists.RuleList.{RuleList}
-use Rattle.selection.specs.Lowest.{Lowest, unbroken, broken, lowest}
+use Rattle.steps.specs.declared.lowest.Lowest.{Lowest}
+use Rattle.steps.specs.declared.lowest.Lowest.the-variants.{Unbroken, BrokenAt}
+use Rattle.steps.specs.Lowest.{lowest}
 use Rattle.enforcement.specs.States.{fresh, ruleHolds, stateAccepted}
 use Rattle.enforcement.specs.Gate.{stepOf, runOf}
 use Rattle.enforcement.specs.Runs.{lastState}
 use Rattle.enforcement.specs.Reached.{Accepted}
 use Rattle.enforcement.specs.declared.states.State.{State}
-use Rattle.enforcement.specs.declared.steps.Step.{Step}
-use Rattle.enforcement.specs.declared.steps.Next.{Next}
+use Rattle.steps.specs.declared.steps.Step.{Step}
+use Rattle.enforcement.specs.declared.states.Next.{Next}
 use Rattle.enforcement.proofs.Reaching.{Good, step-accepted}
 use Rattle.rule_text.specs.Reading as ruleText
 use Rattle.rule_text.specs.declared.reading.LoadedRules.{LoadedRules}
@@ -50,8 +52,8 @@ unfolding readState
 state-number list text number place h = by-list (listAccepted list) h
   where
     by-lowest : (s : State) (low : Lowest) → unlessBroken s low ≡ refused number place → 0 < number
-    by-lowest s unbroken e = unequal cc
-    by-lowest s (broken n) e = let q : 17 ≡ number = cc in omega arith
+    by-lowest s Unbroken e = unequal cc
+    by-lowest s (BrokenAt n) e = let q : 17 ≡ number = cc in omega arith
 
     by-lines : (l : Loading) → readLines text ≡ l → underRules list l ≡ refused number place → 0 < number
     by-lines (loaded s) q e = by-lowest s (lowest (λ rule. ruleHolds rule s) 1 (rulesOf list)) e
@@ -246,7 +248,7 @@ uncopied {t} {text} {number} {place} lent {r} h e = (e ∙ rw (h .0), refused-le
 -- ---- the steps run
 
 -- what the last step hands back is not refused by 40
-last-accepted : (list : RuleList) (s : State) (read : List Step) → Accepted s → Accepted (lastState s (runOf list s read))
+pub last-accepted : (list : RuleList) (s : State) (read : List Step) → Accepted s → Accepted (lastState s (runOf list s read))
 unfolding lastState runOf
 last-accepted list s [] accepted = accepted
 last-accepted list s (step ∷ read) accepted = last-accepted list (stepOf list s step .state) read (step-accepted list s step accepted)

@@ -1,2 +1,4 @@
 pub mod Response
 pub mod SavedRuns
+pub mod Causes
+pub mod Sizes

@@ -9,7 +9,7 @@ use Rattle.forms.specs.Tables.{bytes, found}
 use Rattle.rules.specs.declared.lists.RuleList.{RuleList}
 use Rattle.enforcement.specs.States.{fresh}
 use Rattle.enforcement.specs.Gate.{runOf}
-use Rattle.enforcement.specs.declared.steps.Step.{Step}
+use Rattle.steps.specs.declared.steps.Step.{Step}
 use Rattle.rule_text.specs.Reading.{LinesRead, readLines, listOf}
 use Rattle.step_text.specs.Lines.{StepsRead, steps, bad, readSteps}
 use Rattle.step_text.specs.Answers.{badText, answersText}
@@ -32,15 +32,15 @@ stepsOutcome list line (steps read) = ran list read
 stepsOutcome list line (bad k) = badAt 10 (line + k)
 
 -- "A missing `(steps)` is 10 at the line after the last"
-unfoldable pub numberOf : ℕ → ℕ
-numberOf number = cond (eqb number 0) 10 number
+unfoldable pub numberWithoutSteps : ℕ → ℕ
+numberWithoutSteps number = cond (eqb number 0) 10 number
 
 -- what follows the good lines of the rules
 unfoldable pub afterRules : LinesRead → List ℕ → Outcome
 afterRules rules rest =
     cond (startsSteps rest)
     (stepsOutcome (listOf (rules .rules)) (suc (length (rules .rules))) (readSteps 1 (drop 8 rest)))
-    (badAt (numberOf (rules .number)) (suc (length (rules .rules))))
+    (badAt (numberWithoutSteps (rules .number)) (suc (length (rules .rules))))
 
 -- "19 has line 0 and comes before all else"
 unfoldable pub outcomeOf : List ℕ → Outcome

@@ -12,7 +12,7 @@ use Rattle.enforcement.specs.States.{fresh}
 use Rattle.enforcement.specs.Gate.{runOf}
 use Rattle.enforcement.specs.Runs.{lastState}
 use Rattle.enforcement.specs.declared.states.State.{State}
-use Rattle.enforcement.specs.declared.steps.Step.{Step}
+use Rattle.steps.specs.declared.steps.Step.{Step}
 use Rattle.rule_text.specs.Reading as ruleText
 use Rattle.rule_text.specs.declared.reading.LoadedRules.{LoadedRules}
 use Rattle.state_text.specs.Reading.{Loading, loaded, refused, readState}

@@ -11,4 +11,6 @@ pub use saved_runs::Report;
 pub use saved_runs::copy_state;
 pub use saved_runs::fresh_state;
 pub use saved_runs::load;
+pub use saved_runs::refused_report;
 pub use saved_runs::run_saved;
+pub use saved_runs::written_report;

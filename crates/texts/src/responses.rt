@@ -4,7 +4,7 @@ ghost use Prim.Native.Nat.{_≤_};
 ghost use lib.Dec.{leb};
 ghost use lib.ListN.{length};
 ghost use Rattle.forms.specs.Writing.{Wrote, writtenOf, lentAfter};
-ghost use Rattle.texts.specs.Response.{startsSteps, stepsOutcome, numberOf, outcomeText, responseOf};
+ghost use Rattle.texts.specs.Response.{startsSteps, stepsOutcome, numberWithoutSteps, outcomeText, responseOf};
 ghost use Rattle.step_text.specs.Lines.{readSteps};
 use enforcement::State;
 use forms::Written;
@@ -54,7 +54,12 @@ fn put_response(input: &[u8], out: &mut [u8], at: usize) -> usize
     let start = prefix.length;
     let rest = &input[start..];
     if !starts_steps(rest) {
-        return step_text::put_bad(number_of(prefix.number), prefix.line as u64, out, at);
+        return step_text::put_bad(
+            number_without_steps(prefix.number),
+            prefix.line as u64,
+            out,
+            at,
+        );
     }
     let list = prefix.list;
     put_steps(list, prefix.line, &rest[8..], out, at)
@@ -82,8 +87,8 @@ fn starts_steps(text: &[u8]) -> bool
 }
 
 // "A missing `(steps)` is 10".
-fn number_of(number: u64) -> u64
-    ensures { λ r. ⌜ r ≡ numberOf number ⌝ }
+fn number_without_steps(number: u64) -> u64
+    ensures { λ r. ⌜ r ≡ numberWithoutSteps number ⌝ }
 {
     if number == 0 {
         return 10;

@@ -9,7 +9,7 @@ ghost use Rattle.enforcement.specs.Reached.{Accepted};
 ghost use Rattle.state_text.specs.Reading.{readState};
 ghost use Rattle.state_text.specs.Saving.{savedText};
 ghost use Rattle.step_text.specs.Lines.{readSteps, badLine};
-ghost use Rattle.texts.specs.SavedRuns.{stateUnder, loadTexts, loadedTexts, rulesIn, refusedReport, lentTo, savedReport, stateIn, copyReport, stepsUnder, savedOutcome, Ran};
+ghost use Rattle.texts.specs.SavedRuns.{stateUnder, loadTexts, loadedTexts, rulesIn, refusedReport, writtenReport, lentTo, savedReport, stateIn, copyReport, stepsUnder, savedOutcome, Ran};
 use crate::responses::MOST_BYTES;
 use enforcement::State;
 use forms::Written;
@@ -56,16 +56,16 @@ pub fn run_saved(
     ensures { λ r. ⌜ Ran (savedOutcome (now (rules .entry)) (now (saved .entry)) (now (steps .entry))) (now (answers .entry)) (now (next .entry)) r (now (answers .exit)) (now (next .exit)) ⌝ }
 {
     if MOST_BYTES < steps.len() {
-        return refused(Part::Steps, 19, 0);
+        return refused_report(Part::Steps, 19, 0);
     }
     let loaded = load(rules, saved);
     if loaded.number != 0 {
         let part = loaded.part;
-        return refused(part, loaded.number, loaded.place);
+        return refused_report(part, loaded.number, loaded.place);
     }
     let bad = step_text::first_bad_step(steps);
     if bad != 0 {
-        return refused(Part::Steps, 10, bad);
+        return refused_report(Part::Steps, 10, bad);
     }
     let list = loaded.list;
     let state = loaded.state;
@@ -86,20 +86,14 @@ fn run_steps(
     let mut scratch = [0u8; 1];
     let measured = step_text::put_answers(list, state, steps, &mut scratch, 0);
     if answers.len() < measured.place {
-        return refused(Part::AnswersSpace, 18, 0);
+        return refused_report(Part::AnswersSpace, 18, 0);
     }
     let last = measured.state;
     let Written::Length(written) = state_text::write_state(last, next) else {
-        return refused(Part::StateSpace, 18, 0);
+        return refused_report(Part::StateSpace, 18, 0);
     };
     let answered = step_text::put_answers(list, state, steps, answers, 0);
-    Report {
-        part: Part::Nothing,
-        number: 0,
-        place: 0,
-        answers: answered.place,
-        state: written,
-    }
+    written_report(answered.place, written)
 }
 
 // A saved state, read under the rules and written again.
@@ -109,7 +103,7 @@ pub fn copy_state(rules: &[u8], saved: &[u8], copy: &mut [u8]) -> Report
     let loaded = load(rules, saved);
     if loaded.number != 0 {
         let part = loaded.part;
-        return refused(part, loaded.number, loaded.place);
+        return refused_report(part, loaded.number, loaded.place);
     }
     let state = loaded.state;
     write_saved(state, copy)
@@ -128,15 +122,9 @@ fn write_saved(state: State, out: &mut [u8]) -> Report
     ensures { λ r. ⌜ (r ≡ savedReport (savedText state) (length (now (out .entry)))) × (now (out .exit) ≡ lentTo r (savedText state) (now (out .entry))) ⌝ }
 {
     let Written::Length(written) = state_text::write_state(state, out) else {
-        return refused(Part::StateSpace, 18, 0);
+        return refused_report(Part::StateSpace, 18, 0);
     };
-    Report {
-        part: Part::Nothing,
-        number: 0,
-        place: 0,
-        answers: 0,
-        state: written,
-    }
+    written_report(0, written)
 }
 
 // The rules, and the state under them.
@@ -182,7 +170,7 @@ fn under_rules(list: RuleList, saved: &[u8]) -> LoadedTexts
 }
 
 // Nothing is written.
-fn refused(part: Part, number: u64, place: usize) -> Report
+pub fn refused_report(part: Part, number: u64, place: usize) -> Report
     ensures { λ r. ⌜ r ≡ refusedReport part number place ⌝ }
 {
     Report {
@@ -191,5 +179,18 @@ fn refused(part: Part, number: u64, place: usize) -> Report
         place,
         answers: 0,
         state: 0,
+    }
+}
+
+// Nothing is refused: the bytes of the answers and of the state that were written.
+pub fn written_report(answers: usize, state: usize) -> Report
+    ensures { λ r. ⌜ r ≡ writtenReport answers state ⌝ }
+{
+    Report {
+        part: Part::Nothing,
+        number: 0,
+        place: 0,
+        answers,
+        state,
     }
 }

@@ -53,7 +53,7 @@ loop-less c = answers-less (c .before .before .before .before .before .before .b
 loop-again : tie.Need-loop-again Inv-loop μ-loop
 loop-again c =
     let written = c .before .before .before .before .put-answer .ensures in
-    answers-turn (c .before .before .before .before .before .before .before .before .before .before .before .before .before .loop .inv) (omega arith) (c .before .before .before .before .before .before .before .before .before .before .before .read-step .result) (c .before .before .before .before .before .before .before .before .before .before .before .read-step .ensures) _ (c .before .before .before .before .before .before .before .before .before .good2 .given .1) (c .before .before .before .before .before .before .step2 .result) (c .before .before .before .before .before .before .step2 .ensures) written (puts.same-length written)
+    answers-turn (c .before .before .before .before .before .before .before .before .before .before .before .before .before .loop .inv) (omega arith) (c .before .before .before .before .before .before .before .before .before .before .before .read-step .result) (c .before .before .before .before .before .before .before .before .before .before .before .read-step .ensures) _ (c .before .before .before .before .before .before .before .before .before .good2 .given .1) (c .before .before .before .before .before .before .step2 .result) (c .before .before .before .before .before .before .step2 .ensures .0) written (puts.same-length written)
 
 same-length-2 : tie.Need-same-length-2 Inv-loop μ-loop
 same-length-2 c = c .before .loop .inv .same

@@ -43,8 +43,8 @@ part-rest-end c = search needs
 starts-steps-requires : tie.Need-starts-steps-requires
 starts-steps-requires c κs = search needs
 
-number-of-requires : tie.Need-number-of-requires
-number-of-requires c κs = search needs
+number-without-steps-requires : tie.Need-number-without-steps-requires
+number-without-steps-requires c κs = search needs
 
 put-bad-requires-2 : tie.Need-put-bad-requires-2
 put-bad-requires-2 c κs = search needs
@@ -57,7 +57,7 @@ returns-2 c =
     let input = c .before .before .before .before .before .before .before .before .before .before .before .before .args .input .now in
     let prefix = c .before .before .before .before .before .before .before .before .read-prefix in
     like
-    (response-without input (c .before .before .before .before .before .before .before .before .before .if1 .left) (prefix .result) (prefix .ensures) _ refl _ (c .before .before .before .before .number-of .ensures)
+    (response-without input (c .before .before .before .before .before .before .before .before .before .if1 .left) (prefix .result) (prefix .ensures) _ refl _ (c .before .before .before .before .number-without-steps .ensures)
     (sym (c .before .before .before .before .before .before .starts-steps .ensures) ∙ not-true _ (c .before .before .before .before .before .if2 .taken)))
     (c .before .before .put-bad2 .ensures)
 
@@ -105,7 +105,7 @@ put-response-spec =
     part-rest-start
     part-rest-end
     starts-steps-requires
-    number-of-requires
+    number-without-steps-requires
     put-bad-requires-2
     same-length-2
     returns-2

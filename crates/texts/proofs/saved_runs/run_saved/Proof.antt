@@ -6,35 +6,35 @@ use borrow.Author.Needs.{needs}
 use Rattle.texts.proofs.saved_runs.run_saved.Statement.{statement}
 use Rattle.texts.proofs.saved_runs.run_saved.Tie as tie
 
-refused-requires : tie.Need-refused-requires
-refused-requires c κs = search needs
+refused-report-requires : tie.Need-refused-report-requires
+refused-report-requires c κs = search needs
 
 returns : tie.Need-returns
-returns c = refused-ran (too-long _ _ _ (c .before .if1 .taken)) (omega arith) (c .refused .ensures) _ _
+returns c = refused-ran (too-long _ _ _ (c .before .if1 .taken)) (omega arith) (c .refused-report .ensures) _ _
 
 load-requires : tie.Need-load-requires
 load-requires c κs = search needs
 
-refused-requires-2 : tie.Need-refused-requires-2
-refused-requires-2 c κs = search needs
+refused-report-requires-2 : tie.Need-refused-report-requires-2
+refused-report-requires-2 c κs = search needs
 
 returns-2 : tie.Need-returns-2
 returns-2 c =
     let read = c .before .before .before .load in
     let bad = loaded-refused _ _ (read .result) (read .ensures) (c .before .if2 .taken) in
-    refused-ran (texts-refused _ _ _ (c .before .before .before .before .if1 .left) (bad .0)) (bad .1) (c .refused2 .ensures) _ _
+    refused-ran (texts-refused _ _ _ (c .before .before .before .before .if1 .left) (bad .0)) (bad .1) (c .refused-report2 .ensures) _ _
 
 first-bad-step-requires : tie.Need-first-bad-step-requires
 first-bad-step-requires c κs = search needs
 
-refused-requires-3 : tie.Need-refused-requires-3
-refused-requires-3 c κs = search needs
+refused-report-requires-3 : tie.Need-refused-report-requires-3
+refused-report-requires-3 c κs = search needs
 
 returns-3 : tie.Need-returns-3
 returns-3 c =
     let read = c .before .before .before .before .before .load in
     let held = loaded-holding _ _ (read .result) (read .ensures) (c .before .before .before .if2 .left) in
-    refused-ran (texts-held _ _ _ (c .before .before .before .before .before .before .if1 .left) (held .0) ∙ steps-refused _ _ _ _ (c .before .before .first-bad-step .ensures) (c .before .if3 .taken)) (omega arith) (c .refused3 .ensures) _ _
+    refused-ran (texts-held _ _ _ (c .before .before .before .before .before .before .if1 .left) (held .0) ∙ steps-refused _ _ _ _ (c .before .before .first-bad-step .ensures) (c .before .if3 .taken)) (omega arith) (c .refused-report3 .ensures) _ _
 
 run-steps-requires : tie.Need-run-steps-requires
 run-steps-requires c κs =
@@ -58,13 +58,13 @@ pub run-saved-spec : {M : Type 1} → statement M
 run-saved-spec =
     tie.close
     (tie.spec
-    refused-requires
+    refused-report-requires
     returns
     load-requires
-    refused-requires-2
+    refused-report-requires-2
     returns-2
     first-bad-step-requires
-    refused-requires-3
+    refused-report-requires-3
     returns-3
     run-steps-requires
     same-length

@@ -1,5 +1,5 @@
 -- `texts::saved_runs::run_steps` meets its contract. Assumes nothing.
-use mathlib.Core.Path.{refl, sym, _∙_}
+use mathlib.Core.Path.{sym, _∙_}
 use Rattle.texts.proofs.SavedRunning.{no-room, no-state-room, both-written}
 use borrow.Author.Needs.{needs}
 use Rattle.texts.proofs.saved_runs.run_steps.Statement.{statement}
@@ -11,14 +11,14 @@ slice-aggregate-put-answers c = search needs
 put-answers-requires : tie.Need-put-answers-requires
 put-answers-requires c κs = search needs
 
-refused-requires : tie.Need-refused-requires
-refused-requires c κs = search needs
+refused-report-requires : tie.Need-refused-report-requires
+refused-report-requires c κs = search needs
 
 returns : tie.Need-returns
 returns c =
     let start = c .before .before .before .before .before .before .before .before .before in
     let told = start .pre in
-    no-room (start .args .list) (start .args .state) _ (told .0) (told .1) (told .2) _ _ (c .before .before .before .before .put-answers .ensures .0) (c .before .if1 .taken) (c .refused .ensures)
+    no-room (start .args .list) (start .args .state) _ (told .0) (told .1) (told .2) _ _ (c .before .before .before .before .put-answers .ensures .0) (c .before .if1 .taken) (c .refused-report .ensures)
 
 write-state-requires : tie.Need-write-state-requires
 write-state-requires c κs = search needs
@@ -29,8 +29,8 @@ enum-known-written c = search needs
 enum-told : tie.Need-enum-told
 enum-told c = search needs
 
-refused-requires-2 : tie.Need-refused-requires-2
-refused-requires-2 c κs = search needs
+refused-report-requires-2 : tie.Need-refused-report-requires-2
+refused-report-requires-2 c κs = search needs
 
 same-length : tie.Need-same-length
 same-length c = search needs
@@ -41,7 +41,7 @@ returns-2 c =
     let told = start .pre in
     let measured = c .before .before .before .before .before .before .before .before .before .before .before .put-answers in
     let written = c .before .before .before .before .before .write-state in
-    no-state-room (start .args .list) (start .args .state) _ (told .0) (told .1) (told .2) _ _ (measured .ensures .0) (c .before .before .before .before .before .before .before .before .if1 .left) _ (measured .ensures .1) _ (sym (c .before .enum-told .given .1) ∙ written .ensures .0) (written .ensures .1) (c .refused2 .ensures)
+    no-state-room (start .args .list) (start .args .state) _ (told .0) (told .1) (told .2) _ _ (measured .ensures .0) (c .before .before .before .before .before .before .before .before .if1 .left) _ (measured .ensures .1) _ (sym (c .before .enum-told .given .1) ∙ written .ensures .0) (written .ensures .1) (c .refused-report2 .ensures)
 
 put-answers-requires-2 : tie.Need-put-answers-requires-2
 put-answers-requires-2 c κs = search needs
@@ -52,13 +52,16 @@ same-length-2 c = search needs
 same-length-3 : tie.Need-same-length-3
 same-length-3 c = search needs
 
+written-report-requires : tie.Need-written-report-requires
+written-report-requires c κs = search needs
+
 returns-3 : tie.Need-returns-3
 returns-3 c =
-    let start = c .before .before .before .before .before .before .before .before .before .before .before .before .before .before .before .before .before .before .before .before in
+    let start = c .before .before .before .before .before .before .before .before .before .before .before .before .before .before .before .before .before .before .before .before .before in
     let told = start .pre in
-    let measured = c .before .before .before .before .before .before .before .before .before .before .before .before .before .before .before .put-answers in
-    let written = c .before .before .before .before .before .before .before .before .before .write-state in
-    both-written (start .args .list) (start .args .state) _ (told .0) (told .1) (told .2) _ _ (measured .ensures .0) (c .before .before .before .before .before .before .before .before .before .before .before .before .if1 .left) _ (measured .ensures .1) _ (sym (c .before .before .before .before .before .written .given .1) ∙ written .ensures .0) (written .ensures .1) (c .before .before .put-answers2 .ensures .0) refl
+    let measured = c .before .before .before .before .before .before .before .before .before .before .before .before .before .before .before .before .put-answers in
+    let written = c .before .before .before .before .before .before .before .before .before .before .write-state in
+    both-written (start .args .list) (start .args .state) _ (told .0) (told .1) (told .2) _ _ (measured .ensures .0) (c .before .before .before .before .before .before .before .before .before .before .before .before .before .if1 .left) _ (measured .ensures .1) _ (sym (c .before .before .before .before .before .before .written .given .1) ∙ written .ensures .0) (written .ensures .1) (c .before .before .before .put-answers2 .ensures .0) (c .written-report .ensures)
 
 pub run-steps-spec : {M : Type 1} → statement M
 run-steps-spec =
@@ -66,15 +69,16 @@ run-steps-spec =
     (tie.spec
     slice-aggregate-put-answers
     put-answers-requires
-    refused-requires
+    refused-report-requires
     returns
     write-state-requires
     enum-known-written
     enum-told
-    refused-requires-2
+    refused-report-requires-2
     same-length
     returns-2
     put-answers-requires-2
+    written-report-requires
     same-length-2
     same-length-3
     returns-3)

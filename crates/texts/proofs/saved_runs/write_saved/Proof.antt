@@ -1,5 +1,5 @@
 -- `texts::saved_runs::write_saved` meets its contract. Assumes nothing.
-use mathlib.Core.Path.{refl, sym, _∙_}
+use mathlib.Core.Path.{sym, _∙_}
 use Rattle.texts.proofs.SavedRunning.{saved-refused, saved-written}
 use borrow.Author.Needs.{needs}
 use Rattle.texts.proofs.saved_runs.write_saved.Statement.{statement}
@@ -14,8 +14,8 @@ enum-known-written c = search needs
 enum-told : tie.Need-enum-told
 enum-told c = search needs
 
-refused-requires : tie.Need-refused-requires
-refused-requires c κs = search needs
+refused-report-requires : tie.Need-refused-report-requires
+refused-report-requires c κs = search needs
 
 same-length : tie.Need-same-length
 same-length c = search needs
@@ -23,15 +23,18 @@ same-length c = search needs
 returns : tie.Need-returns
 returns c =
     let written = c .before .before .before .before .before .write-state in
-    saved-refused _ (c .before .before .before .before .before .before .before .before .pre) _ (written .ensures .1) _ (sym (c .before .enum-told .given .1) ∙ written .ensures .0) (c .refused .ensures)
+    saved-refused _ (c .before .before .before .before .before .before .before .before .pre) _ (written .ensures .1) _ (sym (c .before .enum-told .given .1) ∙ written .ensures .0) (c .refused-report .ensures)
 
 same-length-2 : tie.Need-same-length-2
 same-length-2 c = search needs
 
+written-report-requires : tie.Need-written-report-requires
+written-report-requires c κs = search needs
+
 returns-2 : tie.Need-returns-2
 returns-2 c =
-    let written = c .before .before .before .before .before .write-state in
-    saved-written _ (c .before .before .before .before .before .before .before .before .pre) _ (written .ensures .1) _ (sym (c .before .written .given .1) ∙ written .ensures .0) refl
+    let written = c .before .before .before .before .before .before .write-state in
+    saved-written _ (c .before .before .before .before .before .before .before .before .before .pre) _ (written .ensures .1) _ (sym (c .before .before .written .given .1) ∙ written .ensures .0) (c .written-report .ensures)
 
 pub write-saved-spec : {M : Type 1} → statement M
 write-saved-spec =
@@ -40,8 +43,9 @@ write-saved-spec =
     write-state-requires
     enum-known-written
     enum-told
-    refused-requires
+    refused-report-requires
     same-length
     returns
+    written-report-requires
     same-length-2
     returns-2)

@@ -1,0 +1,23 @@
+-- The state with the longest text: that no other has a longer one is proved in proofs/StateSizes.antt. Assumes nothing.
+use mathlib.Core.Bool.{true}
+use lib.ListN.{replicate}
+use lib.IntN.{negsuc}
+use Rattle.places.specs.declared.Position.the-variants.{Known}
+use Rattle.rules.specs.declared.sessions.Session.{Session}
+use Rattle.enforcement.specs.declared.states.State.{State}
+
+-- open for user 63 at the corner of the grid that takes the most bytes: -1,000,000 and -1,000,000
+abbrev pub farthest : Session
+farthest = record { «is_open» = true; user = 63; position = Known (record { x = negsuc 999999; y = negsuc 999999 }) }
+
+-- the last time, every role assigned, every permission carried, every role active in every session, everything done by everybody
+unfoldable pub fullest : State
+fullest =
+    record {
+      time = 3155759999;
+      assigned = replicate 64 4294967295;
+      granted = replicate 32 4294967295;
+      sessions = replicate 32 farthest;
+      active = replicate 32 4294967295;
+      history = replicate 1024 18446744073709551615;
+    }
