@@ -36,6 +36,9 @@ digits-step (suc v) h =
     rw (le-ltb (suc v) 10 h)
     (ap (λ (x : List ℕ). x ++ ((48 + suc v % 10) ∷ [])) (fuel v (suc v / 10) (suc v / 10) (ltb (suc v / 10) 10) (omega arith) (omega arith) refl))
 
+pub digits-two : (v : ℕ) → 10 ≤ v → v < 100 → digitsOf v ≡ ((48 + v / 10) ∷ []) ++ ((48 + v % 10) ∷ [])
+digits-two v h l = digits-step v h ∙ rw (digits-small (v / 10) (omega arith))
+
 pub digits-grow : (a d : ℕ) → 1 ≤ a → d < 10 → digitsOf (a * 10 + d) ≡ digitsOf a ++ ((48 + d) ∷ [])
 digits-grow a d h k =
     let p : (a * 10 + d) / 10 ≡ a = omega arith in

@@ -1,17 +1,17 @@
 -- Finding the form of a text in a table: what is found stands there, and what was written is found. Assumes nothing.
-use mathlib.Core.Path.{_≡_, refl, sym, ap, _∙_, subst}
+use mathlib.Core.Path.{_≡_, refl, sym, ap, _∙_, subst, subst⁻¹}
 use mathlib.Core.Bool.{Bool, true, false, cond, _&&_}
 use mathlib.Core.List.{List, [], _∷_, _++_}
 use Prim.Native.Nat.{ℕ, zero, suc, _+_, _-_, _*_, _≤_, _<_}
 use native.Mathlib.Nat.{add-zero, zero-add}
 use native.Mathlib.Omega.{arith}
-use lib.ListN.{length, drop, getD, replicate, length-append, length-drop}
+use lib.ListN.{length, drop, getD, replicate, length-append, length-drop, List·getD-eq-default}
 use lib.Seq.{sets, sets-eq, length-sets}
-use lib.Dec.{leb, eqb}
-use borrow.Author.Tests.{leb-true}
+use lib.Dec.{leb, ltb, eqb}
+use borrow.Author.Tests.{leb-true, leb-false}
 use Rattle.sets.proofs.Booleans.{both}
 use Rattle.forms.specs.Forms.{head, fill, Match, unmatched, matched, scan, scanned, valuesFit, valuesIn}
-use Rattle.forms.specs.Tables.{linesIn, formAt, onFirst, foundAs, findIn, found, slotCount, parted, apart, apartFromAll, distinct}
+use Rattle.forms.specs.Tables.{linesIn, formAt, onFirst, foundAs, findIn, found, foundFirst, slotCount, parted, apart, apartFromAll, distinct}
 use Rattle.forms.specs.declared.tables.Found.{Found}
 use Rattle.forms.proofs.Matching.{Sound, sound, Within, within, complete, disjoint, item-pos}
 
@@ -166,3 +166,24 @@ pub found-none : (table s : List ℕ) → distinct (linesIn table) ≡ true → 
 found-none table s c n k ws r h f e =
     let g : found table s .form ≡ k = ap (λ (x : List ℕ). found table x .form) e ∙ ap (λ (x : Found). x .form) (found-written table k ws r c h f) in
     omega arith
+
+-- a form of the table that is tried first is found where it stands there, and nothing else changes
+pub tried-first : (table : List ℕ) (k : ℕ) (s : List ℕ) → distinct (linesIn table) ≡ true → foundFirst (formAt table k) k table s ≡ found table s
+unfolding foundFirst formAt
+tried-first table k s c = by-place (leb (length (linesIn table)) k) refl
+  where
+    written : (ws r : List ℕ) → k < length (linesIn table) → valuesFit (formAt table k) ws ≡ true
+        → foundAs k (scanned (scan (formAt table k) (fill (formAt table k) ws ++ r))) ≡ found table (fill (formAt table k) ws ++ r)
+    written ws r h f =
+        unfold scanned in rw (complete (formAt table k) ws r f (parted-at (linesIn table) k c h), zero-add) (sym (found-written table k ws r c h f))
+
+    by-match : (m : Match) → scan (formAt table k) s ≡ m → Sound (formAt table k) s m → k < length (linesIn table) → (b : Bool)
+        → cond (b && scanned m .matches) (foundAs k (scanned (scan (formAt table k) s))) (found table s) ≡ found table s
+    by-match m e o h false = refl
+    by-match unmatched e o h true = unfold scanned in refl
+    by-match (matched vs n) e o h true =
+        unfold scanned in subst⁻¹ (λ (x : List ℕ). foundAs k (scanned (scan (formAt table k) x)) ≡ found table x) (o [] .0) (written (vs ++ []) (drop n s) h (o [] .1))
+
+    by-place : (b : Bool) → leb (length (linesIn table)) k ≡ b → foundFirst (formAt table k) k table s ≡ found table s
+    by-place true e = rw (List·getD-eq-default (linesIn table) [] {n = k} (leb-true _ _ e))
+    by-place false e = by-match (scan (formAt table k) s) refl (sound (formAt table k) s) (leb-false _ _ e) (ltb 0 (length (formAt table k)))

@@ -4,6 +4,7 @@ pub mod Reading
 pub mod Marks
 pub mod Matching
 pub mod Finding
+pub mod Index
 pub mod Puts
 pub mod Room
 pub mod Turns

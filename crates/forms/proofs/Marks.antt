@@ -1,12 +1,13 @@
 -- A value that is in the range of its mark fits, whatever the mark. Assumes nothing.
 use mathlib.Core.Path.{_≡_, refl, sym, ap, _∙_}
-use mathlib.Core.Bool.{Bool, true, false, cond, _&&_, not}
+use mathlib.Core.Bool.{Bool, true, false, cond, _&&_, _||_, not}
 use mathlib.Core.List.{List, [], _∷_}
 use Prim.Native.Nat.{ℕ, zero, suc, _+_, _-_, _%_, _≤_, _<_}
 use native.Mathlib.Omega.{arith}
 use lib.Dec.{ltb, leb, eqb}
-use borrow.Author.Tests.{lt-ltb, ne-eqb, ltb-true, ltb-false, leb-true}
-use Rattle.sets.proofs.Booleans.{both}
+use borrow.Author.Tests.{lt-ltb, le-ltb, le-leb, lt-leb, ne-eqb, ltb-true, ltb-false, leb-true, eqb-true, eqb-false}
+use Rattle.sets.specs.Sets.{member}
+use Rattle.sets.proofs.Booleans.{both, clash}
 use Rattle.forms.specs.Kinds.{Row, kinds, literal, lookup, kindOf, syntaxOf, isSlotSyntax, isSlot, amountOf, inRange, inRangeBy}
 use Rattle.forms.specs.Forms.{fitsBy, textBy, itemText, readBy, readItem, head, left, allInRange, valuesFit}
 use Rattle.forms.specs.declared.kinds.Syntax.{Syntax}
@@ -78,6 +79,95 @@ range-fits (c ∷ t) ws h =
     let p = both (inRange c (head ws)) (allInRange t (left (isSlot c) ws)) h in
     rw (mark-fits c (head ws) (p .0)) (range-fits t (left (isSlot c) ws) (p .1))
 
+-- ---- which bytes are marks
+
+-- what was tested of each number below n holds of it
+abbrev testedBelow : (ℕ → Bool) → ℕ → Bool
+testedBelow test zero = true
+testedBelow test (suc n) = test n && testedBelow test n
+
+tested : (test : ℕ → Bool) (n k : ℕ) → testedBelow test n ≡ true → k < n → test k ≡ true
+tested test zero k h l = absurd (omega arith)
+tested test (suc n) k h l =
+    let p = both (test n) (testedBelow test n) h in
+    go (eqb k n) refl (p .0) (tested test n k (p .1))
+  where
+    go : (b : Bool) → eqb k n ≡ b → test n ≡ true → (k < n → test k ≡ true) → test k ≡ true
+    go true e here ih = rw (eqb-true k n e) here
+    go false e here ih = ih (omega (arith, eqb-false k n e))
+
+abbrev same : Bool → Bool → Bool
+same true b = b
+same false b = not b
+
+same-true : (a b : Bool) → same a b ≡ true → a ≡ b
+same-true true true h = refl
+same-true true false h = clash h refl
+same-true false true h = clash h refl
+same-true false false h = refl
+
+-- as the code tells them
+abbrev isMark : ℕ → Bool
+isMark c = cond (leb 97 c) (eqb c 126) (cond (ltb c 64) (member 14988222526188945408 c) (member 3892314113 (c - 64)))
+
+every-byte : testedBelow (λ c. same (isMark c) (isSlot c)) 256 ≡ true
+unfolding isSlot kindOf lookup member
+every-byte = refl
+
+module _ (c : ℕ) (byte : c < 256) where
+  told : isMark c ≡ isSlot c
+  told = same-true (isMark c) (isSlot c) (tested (λ c. same (isMark c) (isSlot c)) 256 c every-byte byte)
+
+  pub mark-high : 97 ≤ c → eqb c 126 ≡ isSlot c
+  mark-high h = rw (le-leb 97 c h) at told
+
+  pub mark-low : c < 64 → member 14988222526188945408 c ≡ isSlot c
+  mark-low h = rw (lt-leb 97 c (omega arith), lt-ltb c 64 h) at told
+
+  pub mark-between : 64 ≤ c → c < 97 → member 3892314113 (c - 64) ≡ isSlot c
+  mark-between h l = rw (lt-leb 97 c l, le-ltb c 64 h) at told
+
+-- a mark that is none of these stands for a plain number
+abbrev isNumber : Syntax → Bool
+isNumber syntax.Literal = false
+isNumber syntax.Number = true
+isNumber syntax.Signed = false
+isNumber syntax.Date = false
+isNumber syntax.TimeOfDay = false
+
+number-true : (x : Syntax) → isNumber x ≡ true → syntax.Number ≡ x
+number-true syntax.Literal h = clash h refl
+number-true syntax.Number h = refl
+number-true syntax.Signed h = clash h refl
+number-true syntax.Date h = clash h refl
+number-true syntax.TimeOfDay h = clash h refl
+
+abbrev isOther : ℕ → Bool
+isOther c = eqb c 43 || (eqb c 95 || (eqb c 46 || (eqb c 91 || eqb c 93)))
+
+every-number : testedBelow (λ c. (not (isSlot c) || isOther c) || isNumber (syntaxOf c)) 256 ≡ true
+unfolding isSlot kindOf lookup
+every-number = refl
+
+pub number-mark : (c : ℕ) → c < 256 → isSlot c ≡ true → (c ≡ 43 → ⊥) → (c ≡ 95 → ⊥) → (c ≡ 46 → ⊥) → (c ≡ 91 → ⊥) → (c ≡ 93 → ⊥) → syntax.Number ≡ syntaxOf c
+number-mark c byte slot plus underline point left right =
+    number-true (syntaxOf c)
+    (rw (slot, ne-eqb c 43 plus, ne-eqb c 95 underline, ne-eqb c 46 point, ne-eqb c 91 left, ne-eqb c 93 right)
+    at (tested (λ c. (not (isSlot c) || isOther c) || isNumber (syntaxOf c)) 256 c every-number byte))
+
+-- a byte that is no mark has no range
+literal-range : (x : Syntax) (low high v : ℕ) → isSlotSyntax x ≡ false → inRangeBy x low high v ≡ true
+unfolding inRangeBy
+literal-range syntax.Literal low high v h = refl
+literal-range syntax.Number low high v h = clash refl h
+literal-range syntax.Signed low high v h = clash refl h
+literal-range syntax.Date low high v h = clash refl h
+literal-range syntax.TimeOfDay low high v h = clash refl h
+
+pub unmarked-range : (c v : ℕ) → isSlot c ≡ false → inRange c v ≡ true
+unfolding isSlot inRange
+unmarked-range c v h = literal-range (syntaxOf c) (kindOf c .low) (kindOf c .high) v h
+
 -- ---- what a byte's kind decides
 
 module _ (c : ℕ) (k : Kind) (x : Syntax) (e : k ≡ kindOf c) (q : k .syntax ≡ x) where
@@ -85,14 +175,11 @@ module _ (c : ℕ) (k : Kind) (x : Syntax) (e : k ≡ kindOf c) (q : k .syntax �
   unfolding inRange
   kind-range v = rw (← q, e)
 
-  pub kind-slot : isSlotSyntax x ≡ isSlot c
-  unfolding isSlot
-  kind-slot = rw (← q, e)
-
-  pub kind-text : (v : ℕ) → itemText c v ≡ textBy x c v
+module _ (c : ℕ) (k x : Syntax) (e : k ≡ syntaxOf c) (q : k ≡ x) where
+  pub syntax-text : (v : ℕ) → itemText c v ≡ textBy x c v
   unfolding itemText
-  kind-text v = rw (← q, e)
+  syntax-text v = rw (← q, e)
 
-  pub kind-read : (s : List ℕ) → readBy x c s ≡ readItem c s
+  pub syntax-read : (s : List ℕ) → readBy x c s ≡ readItem c s
   unfolding readItem
-  kind-read s = rw (← q, e)
+  syntax-read s = rw (← q, e)

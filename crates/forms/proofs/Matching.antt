@@ -70,7 +70,7 @@ unmarked-fits : (c v : ℕ) → isSlot c ≡ false → fitsBy (syntaxOf c) v ≡
 unfolding isSlot
 unmarked-fits c v h = literal-fits (syntaxOf c) v h
 
-unmarked-read : (c : ℕ) (s : List ℕ) → isSlot c ≡ false → readItem c s ≡ readByte c s
+pub unmarked-read : (c : ℕ) (s : List ℕ) → isSlot c ≡ false → readItem c s ≡ readByte c s
 unfolding isSlot readItem
 unmarked-read c s h = literal-read (syntaxOf c) c s h
 

@@ -17,7 +17,8 @@ use Rattle.forms.specs.Forms.{itemText, readItem, head, tail, left, fill
 use Rattle.forms.specs.Writing.{lastPlace, Wrote}
 use Rattle.forms.specs.declared.numbers.Number.{Number}
 use Rattle.forms.specs.declared.scanning.Scanned.{Scanned}
-use Rattle.forms.proofs.Matching.{item-short}
+use Rattle.forms.proofs.Marks.{unmarked-range}
+use Rattle.forms.proofs.Matching.{item-short, literal-text, unmarked-read}
 use Rattle.forms.proofs.Digits.{digit-true}
 use Rattle.forms.proofs.Puts.{then, like, nothing-written, next-most}
 
@@ -79,6 +80,15 @@ pub byte-other : (c : ℕ) (s : List ℕ) → 0 < length s → (getD s 0 0 ≡ c
 unfolding readByte
 byte-other c [] h e = absurd (omega arith)
 byte-other c (d ∷ s) h e = rw (ne-eqb d c e)
+
+-- one byte, at a place
+pub byte-at : (s : List ℕ) (i c : ℕ) → i < length s → cond (eqb (getD s i 0) c) (valueAndLength 0 1) nothing ≡ readByte c (drop i s)
+unfolding readByte
+byte-at s i c h = rw (drop-cons s i 0 h)
+
+pub byte-past : (s : List ℕ) (i c : ℕ) → length s ≤ i → nothing ≡ readByte c (drop i s)
+unfolding readByte
+byte-past s i c h = rw (drop-of-length-le s {i = i} h)
 
 -- ---- a number that may have a minus
 
@@ -240,6 +250,27 @@ module _ (t s : List ℕ) (a : Scanned) (i : ℕ) (v : Scan t s a i) (h : i < le
       here : scan (drop i t) (drop (a .length) s) ≡ prepend b (r .value) (r .length) (scan (drop (i + 1) t) (drop (a .length + r .length) s))
       here = scan-at t (drop (a .length) s) i h ∙ rw (lt-ltb 0 _ y, ← at, ← p, drop-drop, add-one)
 
+-- the same with a byte that stands for itself, and with a number
+module _ (t s values : List ℕ) (count n i : ℕ) (v : Scan t s (scannedAs values count n) i) (h : i < length t) where
+  module _ (p : isSlot (getD t i 0) ≡ false) (b : Bool) (q : cond b (valueAndLength 0 1) nothing ≡ readByte (getD t i 0) (drop n s)) where
+    byte-read : cond b (valueAndLength 0 1) nothing ≡ readItem (getD t i 0) (take (length s - n) (drop n s))
+    byte-read = q ∙ sym (unmarked-read (getD t i 0) (drop n s) p) ∙ ap (readItem (getD t i 0)) (sym (rest s n))
+
+    pub byte-missed : b ≡ false → notFound ≡ scanned (scan t s)
+    byte-missed f = scan-missed t s (scannedAs values count n) i v h (cond b (valueAndLength 0 1) nothing) byte-read (rw f)
+
+    pub byte-fits : b ≡ true → n + 1 ≤ length s
+    byte-fits e = rw e at (scan-fits t s (scannedAs values count n) i v h (cond b (valueAndLength 0 1) nothing) byte-read)
+
+    pub byte-turn : b ≡ true → Scan t s (scannedAs values count (n + 1)) (i + 1)
+    byte-turn e =
+        scan-turn t s (scannedAs values count n) i v h (cond b (valueAndLength 0 1) nothing) byte-read false (scannedAs values count (n + 1)) (rw e (λ z. omega arith)) (sym p) (rw e)
+
+  pub slot-turn : (r : Number) → r ≡ readItem (getD t i 0) (take (length s - n) (drop n s)) → (r .length ≡ 0 → ⊥) → isSlot (getD t i 0) ≡ true
+      → {values′ : List ℕ} → values′ ≡ set values count (r .value) → Scan t s (scannedAs values′ (count + 1) (n + r .length)) (i + 1)
+  slot-turn r e z p {values′} q =
+      scan-turn t s (scannedAs values count n) i v h r e true (scannedAs values′ (count + 1) (n + r .length)) z (sym p) (rw q)
+
 pub scan-end : (t s : List ℕ) (a : Scanned) (i : ℕ) → Scan t s a i → length t ≤ i → a ≡ scanned (scan t s)
 unfolding scan
 scan-end t s a i v h =
@@ -296,6 +327,11 @@ put-turn {l₀} {at} {t} {vs} {l} {p} {k} {i} inv h f {v} {p′} {k′} {l′} e
   left = λ r x z. inv .left r x (like (fill-at t vs i k h ∙ rw (← e, ← a)) (then (omega (arith, inv .same)) w z));
 }
 
+-- a byte that stands for itself
+pub put-plain : {l₀ : List ℕ} {at : ℕ} {t vs l : List ℕ} {p k i : ℕ} → Put l₀ at t vs l p k i → i < length t → length l₀ ≤ lastPlace → isSlot (getD t i 0) ≡ false
+    → {p′ : ℕ} {l′ : List ℕ} → Wrote l p (getD t i 0 ∷ []) p′ l′ → length l′ ≡ length l → Put l₀ at t vs l′ p′ k (i + 1)
+put-plain {l₀} {at} {t} {vs} {l} {p} {k} {i} inv h f e w s = put-turn inv h f refl (like (literal-text (getD t i 0) (getD vs k 0) e) w) s (rw e)
+
 pub put-end : {l₀ : List ℕ} {at : ℕ} {t vs l : List ℕ} {p k i : ℕ} → Put l₀ at t vs l p k i → length t ≤ i → Wrote l₀ at (fill t vs) p l
 unfolding fill
 put-end {l₀} {at} {t} {vs} {l} {p} {k} {i} inv h =
@@ -323,6 +359,10 @@ range-turn {t} {vs} {k} {i} inv h {v} {k′} {b} e r y a = record {
   few = omega (arith, a, advance-most (isSlot (getD t i 0)) k, inv .few);
   same = inv .same ∙ range-at t vs i k h ∙ rw (← e, ← r, y, ← a);
 }
+
+-- a byte that stands for itself has no range
+pub range-plain : {t vs : List ℕ} {k i : ℕ} → Ranged t vs k i → i < length t → isSlot (getD t i 0) ≡ false → Ranged t vs k (i + 1)
+range-plain {t} {vs} {k} {i} inv h p = range-turn inv h refl refl (unmarked-range (getD t i 0) (getD vs k 0) p) (rw p)
 
 pub range-stop : {t vs : List ℕ} {k i : ℕ} → Ranged t vs k i → i < length t → {v : ℕ} {b : Bool} → v ≡ getD vs k 0
     → b ≡ inRange (getD t i 0) v → b ≡ false → allInRange t vs ≡ false

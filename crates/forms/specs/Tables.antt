@@ -1,11 +1,11 @@
 -- A table of forms: a text, each of whose lines is a form. Assumes nothing.
-use Prim.Native.Nat.{ℕ, zero, suc, _+_}
+use Prim.Native.Nat.{ℕ, zero, suc, _+_, _-_}
 use Prim.Native.Char.{code}
 use Prim.Native.String.{String, len, charAt}
 use mathlib.Core.Bool.{Bool, true, false, cond, _&&_, not}
 use mathlib.Core.List.{List, [], _∷_, _++_}
-use lib.ListN.{length, drop, getD, replicate}
-use lib.Dec.{eqb, leb}
+use lib.ListN.{length, take, drop, getD, replicate}
+use lib.Dec.{eqb, leb, ltb}
 use Rattle.forms.specs.Numbers.{isDigit}
 use Rattle.forms.specs.Kinds.{isSlot}
 use Rattle.forms.specs.Forms.{scan, scanned}
@@ -41,13 +41,26 @@ unfoldable pub lineEnd : List ℕ → ℕ
 lineEnd [] = 0
 lineEnd (c ∷ t) = cond (eqb c 10) 1 (suc (lineEnd t))
 
--- where line i starts; past the last line, the end
-unfoldable pub lineStart : List ℕ → ℕ → ℕ
-lineStart t zero = 0
-lineStart t (suc i) = lineEnd t + lineStart (drop (lineEnd t) t) i
-
 unfoldable pub formAt : List ℕ → ℕ → List ℕ
 formAt table i = getD (linesIn table) i []
+
+-- ---- an index of a table: where each line starts, and where the last one ends
+
+abbrev pub startsFrom : ℕ → List (List ℕ) → List ℕ
+startsFrom i [] = i ∷ []
+startsFrom i (l ∷ ls) = i ∷ startsFrom (i + length l) ls
+
+-- an index is right where it is this
+unfoldable pub startsOf : List ℕ → List ℕ
+startsOf table = startsFrom 0 (linesIn table)
+
+-- the part of a text from i up to but not k; nothing where there is no such part
+abbrev pub partOf : List ℕ → ℕ → ℕ → List ℕ
+partOf t i k = cond (leb i k && leb k (length t)) (take (k - i) (drop i t)) []
+
+-- line i as any index has it; past its last line, nothing
+unfoldable pub lineAt : List ℕ → List ℕ → ℕ → List ℕ
+lineAt table starts i = partOf table (getD starts i 0) (getD starts (suc i) 0)
 
 -- ---- the first form that stands at the front of a text; where none does, the number of forms
 
@@ -63,6 +76,14 @@ findIn (t ∷ ts) i s = cond (scanned (scan t s) .matches) (foundAs i (scanned (
 
 unfoldable pub found : List ℕ → List ℕ → Found
 found table s = findIn (linesIn table) 0 s
+
+-- the form t is tried first, as form i of the table; the empty form would stand at the front of every text
+unfoldable pub foundFirst : List ℕ → ℕ → List ℕ → List ℕ → Found
+foundFirst t i table s = cond (ltb 0 (length t) && scanned (scan t s) .matches) (foundAs i (scanned (scan t s))) (found table s)
+
+-- the likely form is tried first, by the index
+abbrev pub foundLikely : List ℕ → List ℕ → ℕ → List ℕ → Found
+foundLikely table starts likely s = foundFirst (lineAt table starts likely) likely table s
 
 -- ---- a table whose forms can be told from their texts, as a computed test
 

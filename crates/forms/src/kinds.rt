@@ -1,7 +1,9 @@
 // The kinds of numbers that stand in a line, each with its syntax and its range.
 ghost use mathlib.Core.Path.{_≡_};
-ghost use Rattle.forms.specs.Kinds.{kindOf, inRange, isSlot, amountOf};
+ghost use mathlib.Core.Bool.{true};
+ghost use Rattle.forms.specs.Kinds.{kindOf, syntaxOf, inRange, isSlot, amountOf};
 use crate::numbers::Number;
+use sets::word64;
 
 pub enum Syntax {
     // A byte of the form itself.
@@ -18,6 +20,18 @@ pub struct Kind {
     pub syntax: Syntax,
     pub low: u64,
     pub high: u64,
+}
+
+impl Kind {
+    // The marks before the small letters, as sets of bytes: ! # $ % & ' * + , . / < > ? and, counted from 64, @ [ ] ^ _
+    pub const MARKS_BELOW_64: u64 = (1 << 33)
+        | (31 << 35)
+        | (7 << 42)
+        | (3 << 46)
+        | (1 << 60)
+        | (3 << 62);
+
+    pub const MARKS_FROM_64: u64 = 1 | (1 << 27) | (7 << 29);
 }
 
 // What a byte of a form stands for.
@@ -66,17 +80,31 @@ pub(crate) fn is_in_range(mark: u8, value: u64) -> bool
     }
 }
 
+// A byte of a form is a mark, or stands for itself. Most are letters: of these and what follows them `~` alone is a mark.
 pub(crate) fn is_slot(mark: u8) -> bool
     ensures { λ r. ⌜ r ≡ isSlot mark ⌝ }
 {
-    let kind = kind_of(mark);
-    let syntax = kind.syntax;
-    match syntax {
-        Syntax::Literal => false,
-        Syntax::Number => true,
-        Syntax::Signed => true,
-        Syntax::Date => true,
-        Syntax::TimeOfDay => true,
+    if b'a' <= mark {
+        return mark == b'~';
+    }
+    if mark < 64 {
+        return word64::member(Kind::MARKS_BELOW_64, mark as usize);
+    }
+    word64::member(Kind::MARKS_FROM_64, (mark - 64) as usize)
+}
+
+// How the number of a mark is written.
+pub(crate) fn syntax_of(mark: u8) -> Syntax
+    requires { ⌜ isSlot mark ≡ true ⌝ }
+    ensures { λ r. ⌜ r ≡ syntaxOf mark ⌝ }
+{
+    match mark {
+        b'+' => Syntax::Signed,
+        b'_' => Syntax::Signed,
+        b'.' => Syntax::Date,
+        b'[' => Syntax::TimeOfDay,
+        b']' => Syntax::TimeOfDay,
+        _ => Syntax::Number,
     }
 }
 

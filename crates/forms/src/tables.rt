@@ -2,12 +2,12 @@
 ghost use mathlib.Core.Path.{_≡_};
 ghost use lib.ListN.{length};
 ghost use Rattle.forms.specs.Forms.{allInRange, fill};
-ghost use Rattle.forms.specs.Tables.{formAt, found, lineEnd, lineStart};
+ghost use Rattle.forms.specs.Tables.{found, foundLikely, lineAt, lineEnd};
 ghost use Rattle.forms.specs.Writing.{Wrote};
 use crate::kinds::is_in_range;
+use crate::kinds::is_slot;
 use crate::scanning::Scanned;
 use crate::scanning::scan_form;
-use crate::writing::advanced;
 use crate::writing::put_form;
 use crate::writing::value_at;
 
@@ -45,24 +45,66 @@ pub fn find(table: &[u8], text: &[u8]) -> Found
     }
 }
 
-// Each value is in the range that its mark in the form names (else 11).
-pub fn in_range(table: &[u8], form: usize, values: &[u64]) -> bool
-    ensures { λ r. ⌜ r ≡ allInRange (formAt (now (table .entry)) form) (now (values .entry)) ⌝ }
+// The same, with a likely form tried first. The index has where each line of the table starts, and where the last one ends. Where no two
+// forms have a text in common and the index is right, a wrong guess costs time and nothing else.
+pub fn find_likely(table: &[u8], starts: &[usize], likely: usize, text: &[u8]) -> Found
+    ensures { λ r. ⌜ r ≡ foundLikely (now (table .entry)) (now (starts .entry)) likely (now (text .entry)) ⌝ }
 {
-    let start = line_start(table, form);
-    let rest = &table[start..];
-    let end = line_end(rest);
-    values_in_range(&rest[..end], values)
+    let form = line_at(table, starts, likely);
+    if form.len() == 0 {
+        return find(table, text);
+    }
+    let scanned = scan_form(form, text);
+    if !scanned.matches {
+        return find(table, text);
+    }
+    let values = scanned.values;
+    Found {
+        form: likely,
+        values,
+        length: scanned.length,
+    }
 }
 
-// The form with its values, from place `at` of the lent list on; where it ends. Bytes past the list's end are left out.
-pub fn write(table: &[u8], form: usize, values: &[u64], out: &mut [u8], at: usize) -> usize
-    ensures { λ r. ⌜ Wrote (now (out .entry)) at (fill (formAt (now (table .entry)) form) (now (values .entry))) r (now (out .exit)) ⌝ }
+// Each value is in the range that its mark in the form names (else 11); the form by the index.
+pub fn line_in_range(table: &[u8], starts: &[usize], form: usize, values: &[u64]) -> bool
+    ensures { λ r. ⌜ r ≡ allInRange (lineAt (now (table .entry)) (now (starts .entry)) form) (now (values .entry)) ⌝ }
 {
-    let start = line_start(table, form);
-    let rest = &table[start..];
-    let end = line_end(rest);
-    put_form(&rest[..end], values, out, at)
+    values_in_range(line_at(table, starts, form), values)
+}
+
+// The form with its values, from place `at` of the lent list on; where it ends. Bytes past the list's end are left out. The form by the
+// index.
+pub fn write_line(
+    table: &[u8],
+    starts: &[usize],
+    form: usize,
+    values: &[u64],
+    out: &mut [u8],
+    at: usize,
+) -> usize
+    ensures { λ r. ⌜ Wrote (now (out .entry)) at (fill (lineAt (now (table .entry)) (now (starts .entry)) form) (now (values .entry))) r (now (out .exit)) ⌝ }
+{
+    put_form(line_at(table, starts, form), values, out, at)
+}
+
+// A line of the table by its index; nothing where the index has no such line.
+fn line_at<'a>(table: &'a [u8], starts: &[usize], i: usize) -> &'a [u8]
+    ensures { λ r. ⌜ now r ≡ lineAt (now (table .entry)) (now (starts .entry)) i ⌝ }
+{
+    if starts.len() <= i {
+        return &table[0..0];
+    }
+    let next = i + 1;
+    if starts.len() <= next {
+        return &table[0..0];
+    }
+    let start = starts[i];
+    let end = starts[next];
+    if (start <= end) & (end <= table.len()) {
+        return &table[start..end];
+    }
+    &table[0..0]
 }
 
 fn values_in_range(form: &[u8], values: &[u64]) -> bool
@@ -72,29 +114,17 @@ fn values_in_range(form: &[u8], values: &[u64]) -> bool
     let mut i: usize = 0;
     while i < form.len() {
         let mark = form[i];
+        if !is_slot(mark) {
+            i += 1;
+            continue;
+        }
         if !is_in_range(mark, value_at(values, count)) {
             return false;
         }
-        count = advanced(mark, count);
+        count += 1;
         i += 1;
     }
     true
-}
-
-// Where a line of the table starts; past the last line, the table's end.
-fn line_start(table: &[u8], form: usize) -> usize
-    ensures { λ r. ⌜ r ≡ lineStart (now (table .entry)) form ⌝ }
-{
-    let mut start: usize = 0;
-    let mut i: usize = 0;
-    while i < form {
-        if start == table.len() {
-            return start;
-        }
-        start += line_end(&table[start..]);
-        i += 1;
-    }
-    start
 }
 
 // The bytes up to and with the first line feed; all of them where there is none.

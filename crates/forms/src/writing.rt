@@ -1,16 +1,15 @@
 // A form with its values, written into a lent list. A byte past the list's end is left out, so that writing into an empty part measures.
 ghost use mathlib.Core.Path.{_≡_};
+ghost use mathlib.Core.Bool.{true};
 ghost use mathlib.Core.List.{_∷_, []};
-ghost use Prim.Native.Nat.{_<_, _^_, _≤_};
-ghost use lib.ListN.{length, getD};
+ghost use lib.ListN.{getD};
 ghost use Rattle.forms.specs.Numbers.{digitsOf, signedOf, fixedOf};
 ghost use Rattle.forms.specs.Kinds.{isSlot};
-ghost use Rattle.forms.specs.Forms.{itemText, fill, advance};
+ghost use Rattle.forms.specs.Forms.{itemText, fill};
 ghost use Rattle.forms.specs.Writing.{Wrote};
-use crate::kinds::Kind;
 use crate::kinds::Syntax;
 use crate::kinds::is_slot;
-use crate::kinds::kind_of;
+use crate::kinds::syntax_of;
 use crate::numbers::Number;
 
 // The text's length, or the number of a refusal.
@@ -28,19 +27,24 @@ pub(crate) fn put_form(form: &[u8], values: &[u64], out: &mut [u8], at: usize) -
     let mut i: usize = 0;
     while i < form.len() {
         let mark = form[i];
+        if !is_slot(mark) {
+            place = put(mark, out, place);
+            i += 1;
+            continue;
+        }
         place = put_item(mark, value_at(values, count), out, place);
-        count = advanced(mark, count);
+        count += 1;
         i += 1;
     }
     place
 }
 
-// One byte of a form, with the value that it stands for.
+// The number of a mark.
 fn put_item(mark: u8, value: u64, out: &mut [u8], at: usize) -> usize
+    requires { ⌜ isSlot mark ≡ true ⌝ }
     ensures { λ r. ⌜ Wrote (now (out .entry)) at (itemText mark value) r (now (out .exit)) ⌝ }
 {
-    let kind = kind_of(mark);
-    let syntax = kind.syntax;
+    let syntax = syntax_of(mark);
     match syntax {
         Syntax::Literal => put(mark, out, at),
         Syntax::Number => put_number(value, out, at),
@@ -50,13 +54,28 @@ fn put_item(mark: u8, value: u64, out: &mut [u8], at: usize) -> usize
     }
 }
 
+// A plain number. Most have one or two digits.
 fn put_number(value: u64, out: &mut [u8], at: usize) -> usize
     ensures { λ r. ⌜ Wrote (now (out .entry)) at (digitsOf value) r (now (out .exit)) ⌝ }
 {
     if value < 10 {
         return put((48 + value) as u8, out, at);
     }
-    let place = put_number(value / 10, out, at);
+    if 100 <= value {
+        return put_digits(value, out, at);
+    }
+    let place = put((48 + value / 10) as u8, out, at);
+    put((48 + value % 10) as u8, out, place)
+}
+
+// One digit after the other, the last one last.
+fn put_digits(value: u64, out: &mut [u8], at: usize) -> usize
+    ensures { λ r. ⌜ Wrote (now (out .entry)) at (digitsOf value) r (now (out .exit)) ⌝ }
+{
+    if value < 10 {
+        return put((48 + value) as u8, out, at);
+    }
+    let place = put_digits(value / 10, out, at);
     put((48 + value % 10) as u8, out, place)
 }
 
@@ -101,14 +120,4 @@ pub(crate) fn value_at(values: &[u64], count: usize) -> u64
         return values[count];
     }
     0
-}
-
-pub(crate) fn advanced(mark: u8, count: usize) -> usize
-    requires { ⌜ count < 18446744073709551615 ⌝ }
-    ensures { λ r. ⌜ r ≡ advance (isSlot mark) count ⌝ }
-{
-    if is_slot(mark) {
-        return count + 1;
-    }
-    count
 }

@@ -13,7 +13,7 @@ use Rattle.sets.proofs.Booleans.{both, both-true, left-true, right-true}
 use Rattle.forms.specs.Numbers.{isDigit, signedCode, coordinateOf}
 use Rattle.forms.specs.Kinds.{kindOf, lookup, isSlot, inRangeBy, inRange}
 use Rattle.forms.specs.Forms.{head, tail, fill, allInRange}
-use Rattle.forms.specs.Tables.{linesIn, formAt, found, distinct}
+use Rattle.forms.specs.Tables.{linesIn, formAt, found, distinct, startsOf}
 use Rattle.calendar.specs.declared.terms.Term.the-variants.{Dates, Week, Months, Nth, Every}
 use Rattle.places.specs.declared.Shape.the-variants.{Circle, Box}
 use Rattle.places.specs.declared.Side.the-variants.{Inside, Outside}
@@ -35,6 +35,14 @@ use Rattle.rule_text.proofs.Ranges.{IsShort, IsShortRule, line-in-range
 pub table-distinct : distinct (linesIn ruleForms) ≡ true
 unfolding ruleForms linesIn isSlot isDigit kindOf lookup
 table-distinct = refl
+
+-- the index that the code has is the table's
+abbrev pub ruleStarts : List ℕ
+ruleStarts = 0 ∷ 22 ∷ 47 ∷ 70 ∷ 101 ∷ 125 ∷ 146 ∷ 174 ∷ 195 ∷ 227 ∷ 262 ∷ 295 ∷ 325 ∷ 357 ∷ 397 ∷ 436 ∷ 477 ∷ 517 ∷ 542 ∷ 567 ∷ []
+
+pub index-right : ruleStarts ≡ startsOf ruleForms
+unfolding ruleForms startsOf linesIn
+index-right = refl
 
 -- a form has at most six numbers, the rule's own first, and a rule's fields hold them
 isRuleForm : List ℕ → Bool

@@ -6,11 +6,12 @@ use Prim.Native.Nat.{ℕ, suc, _+_, _-_, _≤_, _<_}
 use native.Mathlib.Nat.{add-zero, add-assoc}
 use native.Mathlib.Numerals.{add-one}
 use native.Mathlib.Omega.{arith}
-use lib.ListN.{length, take, drop, set, length-append, length-drop}
+use lib.ListN.{length, take, drop, set, length-append, length-drop, length-set}
 use lib.Seq.{sets}
+use Rattle.rules.specs.declared.families.Rule.{Rule}
 use Rattle.rules.specs.declared.lists.RuleList.{RuleList}
 use Rattle.rule_text.specs.Lines.{ruleText}
-use Rattle.rule_text.specs.Reading.{readLine, LinesRead, stopped, lengthIn, numberIn, lineThen, readFrom, readLines, slot, listOf, prefixOf}
+use Rattle.rule_text.specs.Reading.{readLine, LinesRead, stopped, lengthIn, numberIn, lineThen, readFrom, readLines, slot, unusedSlots, listOf, prefixOf}
 use Rattle.rule_text.specs.Causes.{GoodLine}
 use Rattle.rule_text.specs.declared.reading.Parsed.{Parsed}
 use Rattle.rule_text.specs.declared.reading.LineRead.{LineRead}
@@ -32,6 +33,7 @@ onto list bytes lines = record {
 pub record Inv (text : List ℕ) (list : RuleList) (rest : List ℕ) (bytes line : ℕ) : Type 0 where
   pub counted : line ≡ suc (list .length)
   pub last : line ≤ 129
+  pub slots : length (list .slots) ≡ 128
   pub size : bytes + length rest ≡ length text
   pub same : prefixOf (readLines text) ≡ onto list bytes (readFrom (130 - line) line rest)
 
@@ -47,15 +49,20 @@ unfolding readLines
 start text list e = record {
   counted = ap suc (sym (ap (λ (l : RuleList). l .length) e ∙ (unfold listOf in refl)));
   last = omega arith;
+  slots = ap (λ (l : RuleList). length (l .slots)) e ∙ (unfold listOf unusedSlots in refl);
   size = omega arith;
   same = start-same (readLines text) ∙ ap (λ (l : RuleList). onto l 0 (readFrom 129 1 text)) (sym e);
 }
 
-one-more : (list list′ : RuleList) (bytes : ℕ) (entry : Parsed) (lines : LinesRead) → list′ .slots ≡ set (list .slots) (list .length) (slot (entry .rule)) → list′ .length ≡ list .length + 1
-    → onto list bytes (lineThen (Good entry) lines) ≡ onto list′ (bytes + entry .length) lines
-one-more list list′ bytes entry lines slots counted =
+-- the list and one rule more
+abbrev withRule : RuleList → Rule → RuleList
+withRule list rule = record { slots = set (list .slots) (list .length) (slot rule); length = list .length + 1 }
+
+one-more : (list : RuleList) (bytes : ℕ) (entry : Parsed) (lines : LinesRead)
+    → onto list bytes (lineThen (Good entry) lines) ≡ onto (withRule list (entry .rule)) (bytes + entry .length) lines
+one-more list bytes entry lines =
     let e : list .length + suc (length (lines .rules)) ≡ suc (list .length) + length (lines .rules) = omega arith in
-    rw (slots, counted, add-one, e, add-assoc)
+    rw (add-one, e, add-assoc)
 
 nothing-more : (list : RuleList) (bytes number : ℕ) → onto list bytes (stopped number) ≡ record { list = list; length = bytes; number = number; line = suc (list .length) }
 nothing-more list bytes number = rw (add-zero, add-zero)
@@ -80,18 +87,18 @@ module _ {text : List ℕ} {list : RuleList} {rest : List ℕ} {bytes line : ℕ
     pub small : line ≤ 128
     small = good-here .stands .last
 
-    pub turn : {list′ : RuleList} → list′ .slots ≡ set (list .slots) (list .length) (slot (entry .rule)) → list′ .length ≡ list .length + 1
-        → Inv text list′ (take (length rest - entry .length) (drop (entry .length) rest)) (bytes + entry .length) (line + 1)
-    turn {list′} slots counted =
-        subst⁻¹ (λ (l : List ℕ). Inv text list′ l (bytes + entry .length) (line + 1)) (turns.rest rest (entry .length))
+    pub turn : Inv text (withRule list (entry .rule)) (take (length rest - entry .length) (drop (entry .length) rest)) (bytes + entry .length) (line + 1)
+    turn =
+        subst⁻¹ (λ (l : List ℕ). Inv text (withRule list (entry .rule)) l (bytes + entry .length) (line + 1)) (turns.rest rest (entry .length))
         (record {
           counted = omega (arith, inv .counted);
           last = omega (arith, small);
+          slots = length-set (list .slots) (list .length) (slot (entry .rule)) ∙ inv .slots;
           size = omega (arith, inv .size, fits, length-drop (entry .length) rest);
           same =
               let bound : 130 - (line + 1) ≡ 129 - line = omega (arith, inv .last) in
               inv .same ∙ ap (onto list bytes) here
-              ∙ rw (good, bound, add-one) (one-more list list′ bytes entry (readFrom (129 - line) (suc line) (drop (entry .length) rest)) slots counted);
+              ∙ rw (good, bound, add-one line) (one-more list bytes entry (readFrom (129 - line) (suc line) (drop (entry .length) rest)));
         })
 
   pub stop : {number : ℕ} → answer ≡ Bad number → {code : ℕ} → code ≡ numberIn answer

@@ -1,4 +1,5 @@
 // Rule lists as texts: read, and written.
+mod guesses;
 mod lines;
 mod reading;
 mod writing;

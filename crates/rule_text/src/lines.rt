@@ -35,6 +35,30 @@ pub const FORMS: [u8; 567] = *b"\
 
 pub const FORM_COUNT: usize = 19;
 
+// Where each form starts, and where the last one ends.
+pub const STARTS: [usize; 20] = [
+    0,
+    22,
+    47,
+    70,
+    101,
+    125,
+    146,
+    174,
+    195,
+    227,
+    262,
+    295,
+    325,
+    357,
+    397,
+    436,
+    477,
+    517,
+    542,
+    567,
+];
+
 // A form and its values, the rule's own number first, 0 where the form has fewer than six.
 pub struct Line {
     pub form: usize,

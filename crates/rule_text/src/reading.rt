@@ -1,12 +1,12 @@
 // Reading a rule list: a line at a time, as long as the lines are good.
 ghost use mathlib.Core.Path.{_≡_};
 ghost use mathlib.Core.List.{[]};
-ghost use Prim.Native.Nat.{_+_, _<_};
-ghost use lib.ListN.{length, set};
-ghost use Rattle.rule_text.specs.Reading.{ruleRead, readLine, numberIn, slot, readLines, listOf, prefixOf, readRules};
+ghost use Rattle.rule_text.specs.Reading.{ruleRead, readLine, numberIn, readLines, listOf, prefixOf, readRules};
+use crate::guesses::likely_form;
 use crate::lines;
 use crate::lines::FORM_COUNT;
 use crate::lines::FORMS;
+use crate::lines::STARTS;
 use rules::Rule;
 use rules::RuleList;
 use rules::Slot;
@@ -41,13 +41,13 @@ pub struct LoadedRules {
 fn read_line(text: &[u8], number: u64) -> LineRead
     ensures { λ r. ⌜ r ≡ readLine number (now (text .entry)) ⌝ }
 {
-    let found = forms::find(&FORMS, text);
+    let found = forms::find_likely(&FORMS, &STARTS, likely_form(text, number), text);
     let form = found.form;
     let values = found.values;
     if form == FORM_COUNT {
         return LineRead::Bad(10);
     }
-    if !forms::in_range(&FORMS, form, &values) {
+    if !forms::line_in_range(&FORMS, &STARTS, form, &values) {
         return LineRead::Bad(11);
     }
     if values[0] != number {
@@ -92,20 +92,6 @@ fn no_rules() -> RuleList
     }
 }
 
-// The list and one rule more.
-fn with_rule(list: RuleList, rule: Rule) -> RuleList
-    requires { ⌜ list .length < 128 ⌝ }
-    ensures { λ r. ⌜ (r .slots ≡ set (list .slots) (list .length) (slot rule)) × (r .length ≡ list .length + 1) ⌝ }
-{
-    let length = list.length;
-    let mut slots = list.slots;
-    slots[length] = Slot { rule };
-    RuleList {
-        slots,
-        length: length + 1,
-    }
-}
-
 // Reads lines as long as they are good. Each line is read from the byte after the last line's end.
 pub fn read_prefix(text: &[u8]) -> Prefix
     ensures { λ r. ⌜ r ≡ prefixOf (readLines (now (text .entry))) ⌝ }
@@ -125,7 +111,9 @@ pub fn read_prefix(text: &[u8]) -> Prefix
             };
         };
         let rule = parsed.rule;
-        list = with_rule(list, rule);
+        let at = list.length;
+        list.slots[at] = Slot { rule };
+        list.length = at + 1;
         let end = parsed.length;
         rest = &rest[end..];
         length += end;

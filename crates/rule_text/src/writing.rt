@@ -7,6 +7,7 @@ ghost use Rattle.rule_text.specs.Lines.{ruleText};
 ghost use Rattle.rule_text.specs.Writing.{textOf, writtenRules, lentAfterRules};
 use crate::lines;
 use crate::lines::FORMS;
+use crate::lines::STARTS;
 use forms::Written;
 use rules::Rule;
 use rules::RuleList;
@@ -17,7 +18,7 @@ fn put_rule(number: u64, rule: Rule, out: &mut [u8], at: usize) -> usize
 {
     let line = lines::line_of(number, rule);
     let values = line.values;
-    forms::write(&FORMS, line.form, &values, out, at)
+    forms::write_line(&FORMS, &STARTS, line.form, &values, out, at)
 }
 
 // Writes the lines of a list from the first byte on, and returns where they end.

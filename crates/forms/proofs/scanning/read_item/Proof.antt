@@ -2,13 +2,13 @@
 use mathlib.Core.Path.{_≡_, _∙_}
 use Rattle.forms.specs.Forms.{readBy}
 use Rattle.forms.specs.declared.kinds.Syntax.the-variants as syntax
-use Rattle.forms.proofs.Marks.{kind-read}
+use Rattle.forms.proofs.Marks.{syntax-read}
 use borrow.Author.Needs.{needs}
 use Rattle.forms.proofs.scanning.read_item.Statement.{statement}
 use Rattle.forms.proofs.scanning.read_item.Tie as tie
 
-kind-of-requires : tie.Need-kind-of-requires
-kind-of-requires c κs = search needs
+syntax-of-requires : tie.Need-syntax-of-requires
+syntax-of-requires c κs = c .before .pre
 
 enum-told : tie.Need-enum-told
 enum-told c = search needs
@@ -42,29 +42,29 @@ read-fixed-requires-2 c κs = search needs
 
 returns : tie.Need-returns
 unfolding readBy
-returns c = c .read-byte .ensures ∙ kind-read _ _ syntax.Literal (c .before .before .before .kind-of .ensures) (c .before .enum-told .given .1) _
+returns c = c .read-byte .ensures ∙ syntax-read _ _ syntax.Literal (c .before .before .before .syntax-of .ensures) (c .before .enum-told .given .1) _
 
 returns-2 : tie.Need-returns-2
 unfolding readBy
-returns-2 c = c .read-number .ensures ∙ kind-read _ _ syntax.Number (c .before .before .before .kind-of .ensures) (c .before .enum-told2 .given .1) _
+returns-2 c = c .read-number .ensures ∙ syntax-read _ _ syntax.Number (c .before .before .before .syntax-of .ensures) (c .before .enum-told2 .given .1) _
 
 returns-3 : tie.Need-returns-3
 unfolding readBy
-returns-3 c = c .read-signed .ensures ∙ kind-read _ _ syntax.Signed (c .before .before .before .kind-of .ensures) (c .before .enum-told3 .given .1) _
+returns-3 c = c .read-signed .ensures ∙ syntax-read _ _ syntax.Signed (c .before .before .before .syntax-of .ensures) (c .before .enum-told3 .given .1) _
 
 returns-4 : tie.Need-returns-4
 unfolding readBy
-returns-4 c = c .read-fixed .ensures ∙ kind-read _ _ syntax.Date (c .before .before .before .kind-of .ensures) (c .before .enum-told4 .given .1) _
+returns-4 c = c .read-fixed .ensures ∙ syntax-read _ _ syntax.Date (c .before .before .before .syntax-of .ensures) (c .before .enum-told4 .given .1) _
 
 returns-5 : tie.Need-returns-5
 unfolding readBy
-returns-5 c = c .read-fixed2 .ensures ∙ kind-read _ _ syntax.TimeOfDay (c .before .before .before .kind-of .ensures) (c .before .enum-told5 .given .1) _
+returns-5 c = c .read-fixed2 .ensures ∙ syntax-read _ _ syntax.TimeOfDay (c .before .before .before .syntax-of .ensures) (c .before .enum-told5 .given .1) _
 
 pub read-item-spec : {M : Type 1} → statement M
 read-item-spec =
     tie.close
     (tie.spec
-    kind-of-requires
+    syntax-of-requires
     enum-told
     read-byte-requires
     enum-told-2

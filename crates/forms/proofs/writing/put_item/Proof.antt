@@ -1,14 +1,14 @@
 -- `forms::writing::put_item` meets its contract. Assumes nothing.
 use Rattle.forms.specs.Forms.{textBy}
 use Rattle.forms.specs.declared.kinds.Syntax.the-variants as syntax
-use Rattle.forms.proofs.Marks.{kind-text}
+use Rattle.forms.proofs.Marks.{syntax-text}
 use Rattle.forms.proofs.Puts.{like}
 use borrow.Author.Needs.{needs}
 use Rattle.forms.proofs.writing.put_item.Statement.{statement}
 use Rattle.forms.proofs.writing.put_item.Tie as tie
 
-kind-of-requires : tie.Need-kind-of-requires
-kind-of-requires c κs = search needs
+syntax-of-requires : tie.Need-syntax-of-requires
+syntax-of-requires c κs = c .before .pre
 
 enum-told : tie.Need-enum-told
 enum-told c = search needs
@@ -45,41 +45,41 @@ same-length c = search needs
 
 returns : tie.Need-returns
 unfolding textBy
-returns c = like (kind-text _ _ syntax.Literal (c .before .before .before .before .before .before .kind-of .ensures) (c .before .before .before .before .enum-told .given .1) _) (c .before .before .put .ensures)
+returns c = like (syntax-text _ _ syntax.Literal (c .before .before .before .before .before .before .syntax-of .ensures) (c .before .before .before .before .enum-told .given .1) _) (c .before .before .put .ensures)
 
 same-length-2 : tie.Need-same-length-2
 same-length-2 c = search needs
 
 returns-2 : tie.Need-returns-2
 unfolding textBy
-returns-2 c = like (kind-text _ _ syntax.Number (c .before .before .before .before .before .before .kind-of .ensures) (c .before .before .before .before .enum-told2 .given .1) _) (c .before .before .put-number .ensures)
+returns-2 c = like (syntax-text _ _ syntax.Number (c .before .before .before .before .before .before .syntax-of .ensures) (c .before .before .before .before .enum-told2 .given .1) _) (c .before .before .put-number .ensures)
 
 same-length-3 : tie.Need-same-length-3
 same-length-3 c = search needs
 
 returns-3 : tie.Need-returns-3
 unfolding textBy
-returns-3 c = like (kind-text _ _ syntax.Signed (c .before .before .before .before .before .before .kind-of .ensures) (c .before .before .before .before .enum-told3 .given .1) _) (c .before .before .put-signed .ensures)
+returns-3 c = like (syntax-text _ _ syntax.Signed (c .before .before .before .before .before .before .syntax-of .ensures) (c .before .before .before .before .enum-told3 .given .1) _) (c .before .before .put-signed .ensures)
 
 same-length-4 : tie.Need-same-length-4
 same-length-4 c = search needs
 
 returns-4 : tie.Need-returns-4
 unfolding textBy
-returns-4 c = like (kind-text _ _ syntax.Date (c .before .before .before .before .before .before .kind-of .ensures) (c .before .before .before .before .enum-told4 .given .1) _) (c .before .before .put-fixed .ensures)
+returns-4 c = like (syntax-text _ _ syntax.Date (c .before .before .before .before .before .before .syntax-of .ensures) (c .before .before .before .before .enum-told4 .given .1) _) (c .before .before .put-fixed .ensures)
 
 same-length-5 : tie.Need-same-length-5
 same-length-5 c = search needs
 
 returns-5 : tie.Need-returns-5
 unfolding textBy
-returns-5 c = like (kind-text _ _ syntax.TimeOfDay (c .before .before .before .before .before .before .kind-of .ensures) (c .before .before .before .before .enum-told5 .given .1) _) (c .before .before .put-fixed2 .ensures)
+returns-5 c = like (syntax-text _ _ syntax.TimeOfDay (c .before .before .before .before .before .before .syntax-of .ensures) (c .before .before .before .before .enum-told5 .given .1) _) (c .before .before .put-fixed2 .ensures)
 
 pub put-item-spec : {M : Type 1} → statement M
 put-item-spec =
     tie.close
     (tie.spec
-    kind-of-requires
+    syntax-of-requires
     enum-told
     put-requires
     enum-told-2

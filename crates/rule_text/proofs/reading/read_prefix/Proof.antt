@@ -34,29 +34,35 @@ number-in-requires c κs = search needs
 returns : tie.Need-returns Inv-loop μ-loop
 returns c = let l = c .before .before .before .before .before .loop in let r = c .before .before .before .read-line in stop (l .inv) (omega arith) (r .ensures) (c .before .enum-told .given .1) (c .number-in .ensures)
 
-with-rule-requires : tie.Need-with-rule-requires Inv-loop μ-loop
-with-rule-requires c κs = let l = c .before .before .before .before .before .loop in let r = c .before .before .before .read-line in let g = c .before .answer .given in omega (arith, l .inv .counted, small (l .inv) (omega arith) (r .ensures) (g .1))
+mul-t12 : tie.Need-mul-t12 Inv-loop μ-loop
+mul-t12 c = search needs
+
+element-set-from-list : tie.Need-element-set-from-list Inv-loop μ-loop
+element-set-from-list c = let l = c .before .before .before .before .before .loop in let r = c .before .before .before .read-line in let g = c .before .answer .given in omega (arith, l .inv .slots, l .inv .counted, small (l .inv) (omega arith) (r .ensures) (g .1))
+
+add-list : tie.Need-add-list Inv-loop μ-loop
+add-list c = let l = c .before .before .before .before .before .loop in let r = c .before .before .before .read-line in let g = c .before .answer .given in omega (arith, l .inv .counted, l .inv .last)
 
 sub-rest : tie.Need-sub-rest Inv-loop μ-loop
-sub-rest c = let l = c .before .before .before .before .before .before .loop in let r = c .before .before .before .before .read-line in let g = c .before .before .answer .given in omega (arith, fits (l .inv) (omega arith) (r .ensures) (g .1))
+sub-rest c = let l = c .before .before .before .before .before .loop in let r = c .before .before .before .read-line in let g = c .before .answer .given in omega (arith, fits (l .inv) (omega arith) (r .ensures) (g .1))
 
 part-rest-start : tie.Need-part-rest-start Inv-loop μ-loop
-part-rest-start c = let l = c .before .before .before .before .before .before .loop in let r = c .before .before .before .before .read-line in let g = c .before .before .answer .given in omega (arith, fits (l .inv) (omega arith) (r .ensures) (g .1))
+part-rest-start c = let l = c .before .before .before .before .before .loop in let r = c .before .before .before .read-line in let g = c .before .answer .given in omega (arith, fits (l .inv) (omega arith) (r .ensures) (g .1))
 
 part-rest-end : tie.Need-part-rest-end Inv-loop μ-loop
-part-rest-end c = let l = c .before .before .before .before .before .before .loop in let r = c .before .before .before .before .read-line in let g = c .before .before .answer .given in omega (arith, fits (l .inv) (omega arith) (r .ensures) (g .1))
+part-rest-end c = let l = c .before .before .before .before .before .loop in let r = c .before .before .before .read-line in let g = c .before .answer .given in omega (arith, fits (l .inv) (omega arith) (r .ensures) (g .1))
 
 add-length : tie.Need-add-length Inv-loop μ-loop
-add-length c = let l = c .before .before .before .before .before .before .before .loop in let r = c .before .before .before .before .before .read-line in let g = c .before .before .before .answer .given in omega (arith, l .inv .size, fits (l .inv) (omega arith) (r .ensures) (g .1))
+add-length c = let l = c .before .before .before .before .before .before .loop in let r = c .before .before .before .before .read-line in let g = c .before .before .answer .given in omega (arith, l .inv .size, fits (l .inv) (omega arith) (r .ensures) (g .1))
 
 add-line : tie.Need-add-line Inv-loop μ-loop
-add-line c = let l = c .before .before .before .before .before .before .before .loop in let r = c .before .before .before .before .before .read-line in let g = c .before .before .before .answer .given in omega (arith, l .inv .last)
+add-line c = let l = c .before .before .before .before .before .before .loop in let r = c .before .before .before .before .read-line in let g = c .before .before .answer .given in omega (arith, l .inv .last)
 
 loop-less : tie.Need-loop-less Inv-loop μ-loop
-loop-less c = let l = c .before .before .before .before .before .before .before .loop in let r = c .before .before .before .before .before .read-line in let g = c .before .before .before .answer .given in omega (arith, small (l .inv) (omega arith) (r .ensures) (g .1))
+loop-less c = let l = c .before .before .before .before .before .before .loop in let r = c .before .before .before .before .read-line in let g = c .before .before .answer .given in omega (arith, small (l .inv) (omega arith) (r .ensures) (g .1))
 
 loop-again : tie.Need-loop-again Inv-loop μ-loop
-loop-again c = let l = c .before .before .before .before .before .before .before .loop in let r = c .before .before .before .before .before .read-line in let g = c .before .before .before .answer .given in turn (l .inv) (omega arith) (r .ensures) (g .1) (c .before .with-rule .ensures .0) (c .before .with-rule .ensures .1)
+loop-again c = let l = c .before .before .before .before .before .before .loop in let r = c .before .before .before .before .read-line in let g = c .before .before .answer .given in turn (l .inv) (omega arith) (r .ensures) (g .1)
 
 returns-2 : tie.Need-returns-2 Inv-loop μ-loop
 returns-2 c = end _ (c .before .loop .inv) (omega arith)
@@ -74,7 +80,9 @@ read-prefix-spec =
     enum-told
     number-in-requires
     returns
-    with-rule-requires
+    mul-t12
+    element-set-from-list
+    add-list
     sub-rest
     part-rest-start
     part-rest-end
