@@ -9,9 +9,12 @@ pub mod LineTexts
 pub mod Refusals
 pub mod LowestRule
 pub mod OwnCauses
+pub mod JoinedLines
 pub mod RoundTrips
-pub mod Lengths
 pub mod Writes
+pub mod LineSizes
+pub mod Measures
+pub mod Fields
 pub mod Loads
 pub mod WritingCauses
 pub mod Copies

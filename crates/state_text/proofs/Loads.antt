@@ -15,10 +15,10 @@ use Rattle.steps.specs.declared.lowest.Lowest.the-variants.{Unbroken, BrokenAt}
 use Rattle.steps.specs.Lowest.{lowest}
 use Rattle.enforcement.specs.States.{fresh, ruleHolds}
 use Rattle.enforcement.specs.declared.states.State.{State}
-use Rattle.state_text.specs.Entries.{lineText, rank, follows, inOrder, withLine, rests}
+use Rattle.state_text.specs.Entries.{lineText, rank, inOrder, withLine, rests}
 use Rattle.state_text.specs.Reading.{readLine, entryIn, lengthIn, Loading, loaded, refused, lineVerdict, readFrom, readLines, unlessBroken, underRules, readState, loadedOf}
 use Rattle.state_text.specs.Causes.{Ranged}
-use Rattle.state_text.specs.Parts.{checkLine, numberIn}
+use Rattle.state_text.specs.Parts.{lineNumber, numberIn}
 use Rattle.state_text.specs.declared.reading.LineRead.{LineRead}
 use Rattle.state_text.specs.declared.reading.LineRead.the-variants.{Good, Bad}
 use Rattle.state_text.specs.declared.reading.LoadedState.{LoadedState}
@@ -28,59 +28,28 @@ use Rattle.state_text.proofs.LineTexts.{GoodLine, Answers, read-answers
 use Rattle.state_text.proofs.Refusals.{read-step, read-end, read-whole}
 use Rattle.state_text.proofs.GoodLines.{rank-small}
 use Rattle.state_text.proofs.OwnCauses.{lines-number, state-result}
+use Rattle.state_text.proofs.Fields.{users-kept, fresh-users}
 use Rattle.state_text.proofs.Same.{unequal}
 
 -- ---- a line that was checked
 
--- what follows a line, by its check
-checked : (n next : ℕ) (s : State) (a : LineRead) (later : Loading) → lineVerdict n next s a later ≡ lineVerdict n next s (checkLine next s a) later
-checked n next s (Bad number) later = refl
-checked n next s (Good p) later = go (inOrder next (p .entry)) refl (rests s (p .entry)) refl
-  where
-    go : (x : Bool) → inOrder next (p .entry) ≡ x → (y : Bool) → rests s (p .entry) ≡ y →
-        cond x (cond y later (refused 16 n)) (refused 15 n) ≡ lineVerdict n next s (cond x (cond y (Good p) (Bad 16)) (Bad 15)) later
-    go true e true f = rw (e, f)
-    go true e false f = refl
-    go false e y f = refl
+-- its number says what follows it
+module _ (n next : ℕ) (s : State) (p : Parsed) (later : Loading) {number : ℕ} (told : number ≡ lineNumber next (rank (p .entry)) (rests s (p .entry))) where
+  verdict-bad : (number ≡ 0 → ⊥) → lineVerdict n next s (Good p) later ≡ refused number n
+  verdict-bad some = go (inOrder next (p .entry)) (rests s (p .entry)) told
+    where
+      go : (x y : Bool) → number ≡ cond x (cond y 0 16) 15 → cond x (cond y later (refused 16 n)) (refused 15 n) ≡ refused number n
+      go true true q = absurd (some q)
+      go true false q = rw q
+      go false y q = rw q
 
-pub record Passed (next : ℕ) (s : State) (a : LineRead) (p : Parsed) : Type 0 where
-  pub isRead : a ≡ Good p
-  pub ordered : inOrder next (p .entry) ≡ true
-  pub rested : rests s (p .entry) ≡ true
-
-pub passed : (next : ℕ) (s : State) (a : LineRead) (p : Parsed) → checkLine next s a ≡ Good p → Passed next s a p
-passed next s (Bad number) p h = unequal cc
-passed next s (Good q) p h = go (inOrder next (q .entry)) refl (rests s (q .entry)) refl h
-  where
-    go : (x : Bool) → inOrder next (q .entry) ≡ x → (y : Bool) → rests s (q .entry) ≡ y → cond x (cond y (Good q) (Bad 16)) (Bad 15) ≡ Good p → Passed next s (Good q) p
-    go true e true f h = let same : q ≡ p = cc in subst (Passed next s (Good q)) same (record { isRead = refl; ordered = e; rested = f })
-    go true e false f h = unequal cc
-    go false e y f h = unequal cc
-
--- as the code checks it
-module _ (next : ℕ) (s : State) (t : List ℕ) (a : LineRead) (e : a ≡ readLine t) where
-  pub check-bad : (b : ℕ) → a ≡ Bad b → a ≡ checkLine next s (readLine t)
-  check-bad b g = g ∙ ap (checkLine next s) (sym g ∙ e)
-
-  module _ (p : Parsed) (g : a ≡ Good p) {r : ℕ} (q : r ≡ rank (p .entry)) {x : Bool} (o : x ≡ follows next r) where
-    is-read : checkLine next s (readLine t) ≡ checkLine next s (Good p)
-    is-read = ap (checkLine next s) (sym e ∙ g)
-
-    order : x ≡ inOrder next (p .entry)
-    order = o ∙ ap (follows next) q
-
-    pub check-order : x ≡ false → Bad 15 ≡ checkLine next s (readLine t)
-    check-order h = sym (is-read ∙ rw (sym order ∙ h))
-
-    module _ (h : x ≡ true) {y : Bool} (w : y ≡ rests s (p .entry)) where
-      pub check-rests : y ≡ false → Bad 16 ≡ checkLine next s (readLine t)
-      check-rests k = sym (is-read ∙ rw (sym order ∙ h, sym w ∙ k))
-
-      pub check-good : y ≡ true → Good p ≡ checkLine next s (readLine t)
-      check-good k = sym (is-read ∙ rw (sym order ∙ h, sym w ∙ k))
-
-pub check-ranged : (t : List ℕ) (a : LineRead) → a ≡ readLine t → (p : Parsed) → a ≡ Good p → Ranged (p .entry)
-check-ranged t a e p g = let good : GoodLine t p = subst (Answers t) (sym e ∙ g) (read-answers t) in good .ranged
+  verdict-good : number ≡ 0 → lineVerdict n next s (Good p) later ≡ later
+  verdict-good none = go (inOrder next (p .entry)) (rests s (p .entry)) told
+    where
+      go : (x y : Bool) → number ≡ cond x (cond y 0 16) 15 → cond x (cond y later (refused 16 n)) (refused 15 n) ≡ later
+      go true true q = refl
+      go true false q = absurd (omega arith)
+      go false y q = absurd (omega arith)
 
 -- ---- the loop
 
@@ -88,13 +57,27 @@ pub record Unread (text : List ℕ) (s : State) (t : List ℕ) (n next : ℕ) : 
   pub bound : ℕ
   pub enough : length t ≤ bound
   pub lines : n + length t ≤ length text + 1
+  pub users : length (s .assigned) ≡ 64
   pub same : readLines text ≡ readFrom bound n next s t
+
+-- a line in range at the front of what is left, by its number
+pub record Line (text : List ℕ) (s : State) (t : List ℕ) (n next : ℕ) (p : Parsed) : Type 0 where
+  pub ranged : Ranged (p .entry)
+  pub small : rank (p .entry) < 69697
+  pub within : p .length ≤ length t
+  pub less : length (take (length t - p .length) (drop (p .length) t)) < length t
+  pub bad : {number : ℕ} → number ≡ lineNumber next (rank (p .entry)) (rests s (p .entry)) → (number ≡ 0 → ⊥)
+      → (x : LoadedState) → x ≡ loadedOf (refused number n) → x ≡ loadedOf (readLines text)
+  pub turn : {number : ℕ} → number ≡ lineNumber next (rank (p .entry)) (rests s (p .entry)) → number ≡ 0
+      → (s′ : State) (r : ℕ) → s′ ≡ withLine s (p .entry) → r ≡ rank (p .entry)
+      → Unread text s′ (take (length t - p .length) (drop (p .length) t)) (n + 1) (r + 1)
 
 pub start : (text : List ℕ) (s : State) → 0 < length text → s ≡ fresh → Unread text s text 1 0
 start text s h e = record {
   bound = length text;
   enough = omega arith;
   lines = omega arith;
+  users = rw e fresh-users;
   same = read-whole text h ∙ rw e;
 }
 
@@ -111,51 +94,49 @@ module _ (text : List ℕ) (s : State) (t : List ℕ) (n next : ℕ) (left : Unr
       empty [] h = read-end (left .bound) n next s
       empty (c ∷ t) h = absurd (omega arith)
 
-  module _ (h : 0 < length t) (a : LineRead) (e : a ≡ checkLine next s (readLine t)) where
+  module _ (h : 0 < length t) (a : LineRead) (e : a ≡ readLine t) where
     abbrev later : Loading
-    later = readFrom (left .bound - 1) (suc n) (suc (rank (entryIn (readLine t)))) (withLine s (entryIn (readLine t))) (drop (lengthIn (readLine t)) t)
+    later = readFrom (left .bound - 1) (suc n) (suc (rank (entryIn a))) (withLine s (entryIn a)) (drop (lengthIn a) t)
 
     here : readLines text ≡ lineVerdict n next s a later
     here =
         let z : left .bound ≡ suc (left .bound - 1) = omega (arith, left .enough) in
-        left .same ∙ ap (λ (f : ℕ). readFrom f n next s t) z ∙ read-step (left .bound - 1) n next s t h
-        ∙ checked n next s (readLine t) later ∙ ap (λ (x : LineRead). lineVerdict n next s x later) (sym e)
+        left .same ∙ ap (λ (f : ℕ). readFrom f n next s t) z ∙ read-step (left .bound - 1) n next s t h ∙ rw e
 
     pub bad-line : (b : ℕ) → a ≡ Bad b → (c : ℕ) → c ≡ numberIn a → (x : LoadedState) → x ≡ loadedOf (refused c n) → x ≡ loadedOf (readLines text)
     bad-line b g c q x w = w ∙ rw (q, here, g)
 
     module _ (p : Parsed) (g : a ≡ Good p) where
-      here-passed : Passed next s (readLine t) p
-      here-passed = passed next s (readLine t) p (sym e ∙ g)
-
       good : GoodLine t p
-      good = subst (Answers t) (here-passed .isRead) (read-answers t)
-
-      pub ranged : Ranged (p .entry)
-      ranged = good .ranged
-
-      pub small : rank (p .entry) < 69697
-      small = rank-small (p .entry) ranged
-
-      pub within : p .length ≤ length t
-      within = good .within
+      good = subst (Answers t) (sym e ∙ g) (read-answers t)
 
       shorter : length (drop (p .length) t) + 1 ≤ length t
       shorter = omega (arith, ap length (good .isLine), length-append (lineText (p .entry)) (drop (p .length) t), line-some (p .entry))
 
-      pub less : length (take (length t - p .length) (drop (p .length) t)) < length t
-      less = rw (rest t (p .length)) (omega (arith, shorter))
+      abbrev after : Loading
+      after = readFrom (left .bound - 1) (suc n) (suc (rank (p .entry))) (withLine s (p .entry)) (drop (p .length) t)
 
-      turned : (r : ℕ) → r ≡ rank (p .entry) → (s′ : State) → s′ ≡ withLine s (p .entry) → Unread text s′ (drop (p .length) t) (n + 1) (r + 1)
-      turned r q s′ w = record {
+      read : readLines text ≡ lineVerdict n next s (Good p) after
+      read = here ∙ rw g
+
+      turned : {number : ℕ} → number ≡ lineNumber next (rank (p .entry)) (rests s (p .entry)) → number ≡ 0 → (s′ : State) → s′ ≡ withLine s (p .entry) → Unread text s′ (drop (p .length) t) (n + 1) (rank (p .entry) + 1)
+      turned told none s′ w = record {
         bound = left .bound - 1;
         enough = omega (arith, shorter, left .enough);
         lines = omega (arith, shorter, left .lines);
-        same = here ∙ rw (g, here-passed .ordered, here-passed .rested, here-passed .isRead, w, q, add-one, add-one);
+        users = ap (λ (z : State). length (z .assigned)) w ∙ users-kept s (p .entry) ∙ left .users;
+        same = read ∙ verdict-good n next s p after told none ∙ rw (w, add-one, add-one);
       }
 
-      pub turn : (r : ℕ) → r ≡ rank (p .entry) → (s′ : State) → s′ ≡ withLine s (p .entry) → Unread text s′ (take (length t - p .length) (drop (p .length) t)) (n + 1) (r + 1)
-      turn r q s′ w = subst⁻¹ (λ (l : List ℕ). Unread text s′ l (n + 1) (r + 1)) (rest t (p .length)) (turned r q s′ w)
+      pub good-line : Line text s t n next p
+      good-line = record {
+        ranged = good .ranged;
+        small = rank-small (p .entry) (good .ranged);
+        within = good .within;
+        less = rw (rest t (p .length)) (omega (arith, shorter));
+        bad = λ told some x w. w ∙ sym (ap loadedOf (read ∙ verdict-bad n next s p after told some));
+        turn = λ told none s′ r w q. subst⁻¹ (λ (l : List ℕ). Unread text s′ l (n + 1) (r + 1)) (rest t (p .length)) (rw q (turned told none s′ w));
+      }
 
 -- ---- and then the rules
 

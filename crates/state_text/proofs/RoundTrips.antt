@@ -26,7 +26,7 @@ use Rattle.state_text.specs.declared.entries.Entry.the-variants.{Now}
 use Rattle.state_text.proofs.Keeping.{Kept}
 use Rattle.state_text.proofs.Same.{unequal}
 use Rattle.state_text.proofs.GoodLines.{GoodLines, good-left, lines-good, some-lines, fresh-lines}
-use Rattle.state_text.proofs.Lengths.{text-one}
+use Rattle.state_text.proofs.JoinedLines.{text-one}
 use Rattle.state_text.proofs.Earlier.{good-means}
 use Rattle.state_text.proofs.OwnCauses.{read-good}
 

@@ -13,7 +13,7 @@ use Rattle.sets.proofs.Booleans.{both, both-true}
 use Rattle.forms.specs.Numbers.{isDigit}
 use Rattle.forms.specs.Kinds.{kindOf, lookup, isSlot, amountOf, inRangeBy, inRange}
 use Rattle.forms.specs.Forms.{textBy, itemText, fill, allInRange, valuesIn}
-use Rattle.forms.specs.Tables.{linesIn, formAt, distinct}
+use Rattle.forms.specs.Tables.{linesIn, formAt, startsOf, distinct}
 use Rattle.forms.proofs.Coordinates.{coordinate-back, coordinate-grid, code-back, code-range}
 use Rattle.state_text.specs.Entries.{savedForms, entryOf, formOf, valuesOf, lineText}
 use Rattle.state_text.specs.Causes.{Ranged}
@@ -30,6 +30,14 @@ forms-distinct = refl
 pub seven-forms : length (linesIn savedForms) ≡ 7
 unfolding savedForms linesIn
 seven-forms = refl
+
+-- where each form starts, and where the last one ends
+abbrev pub formStarts : List ℕ
+formStarts = 0 ∷ 8 ∷ 23 ∷ 37 ∷ 48 ∷ 62 ∷ 75 ∷ 87 ∷ []
+
+pub index-right : formStarts ≡ startsOf savedForms
+unfolding savedForms startsOf linesIn
+index-right = refl
 
 pub form-small : (e : Entry) → formOf e < 7
 unfolding formOf

@@ -7,25 +7,26 @@ use Prim.Native.Nat.{ℕ, _+_, _*_, _/_, _%_, _^_, _≤_, _<_}
 use native.Mathlib.Numerals.{add-one}
 use native.Mathlib.Omega.{arith}
 use lib.ListN.{length}
+use borrow.Author.Tests.{le-leb, lt-leb}
 use Rattle.sets.specs.Sets.{member}
 use Rattle.sets.proofs.Members.{member-empty}
 use Rattle.sets.proofs.Width.{member-past}
 use Rattle.forms.specs.Writing.{lastPlace, Wrote, writtenOf, lentAfter}
 use Rattle.forms.specs.declared.writing.Written.{Written}
-use Rattle.forms.specs.declared.writing.Written.the-variants.{Refused}
-use Rattle.forms.proofs.Puts.{then, like, nothing-written, same-length}
+use Rattle.forms.specs.declared.writing.Written.the-variants.{Length, Refused}
+use Rattle.forms.proofs.Puts.{then, like, nothing-written, same-length, measure, at-front}
 use Rattle.rules.specs.Families.{wordAt, sessionAt}
 use Rattle.rules.specs.declared.sessions.Session.{Session}
 use Rattle.enforcement.specs.States.{assignedRole, carries, did, stateAccepted}
 use Rattle.enforcement.specs.declared.states.State.{State}
 use Rattle.state_text.specs.Entries.{lineText}
 use Rattle.state_text.specs.Saving.{over, only, placeLines, sessionLines, linesOf, linesText, savedText, writtenState, lentState}
-use Rattle.state_text.specs.Parts.{memberLine, memberLines, setLines, rowLines, historyLines, openLines, sessionParts}
+use Rattle.state_text.specs.Parts.{memberLine, memberLines, setLines, rowLines, historyLines, openLines, sessionParts, sessionPartsAt}
 use Rattle.state_text.specs.declared.entries.Entry.{Entry}
 use Rattle.state_text.specs.declared.entries.Entry.the-variants.{Now, Assigned, Granted, Did}
 use Rattle.state_text.proofs.Rows.{over-zero, over-suc, over-same, over-more, over-mul}
 use Rattle.state_text.proofs.Cells.{carries-word, did-word, object-of, permission-of}
-use Rattle.state_text.proofs.Lengths.{text-append, text-none, text-one}
+use Rattle.state_text.proofs.JoinedLines.{text-append, text-none, text-one}
 
 -- ---- a loop that writes the parts f 0, f 1, ..
 
@@ -74,7 +75,7 @@ pub empty-set : (form a b set : ℕ) → set ≡ 0 → (l : List ℕ) (i : ℕ) 
 empty-set form a b set e l i h = like (rw (e, no-members form a b) text-none) (nothing-written l i h)
 
 -- a set of numbers below 32
-low-set : (form a b set : ℕ) → set < 2 ^ 32 → setLines form a b set ≡ over 32 (memberLines form a b set)
+pub low-set : (form a b set : ℕ) → set < 2 ^ 32 → setLines form a b set ≡ over 32 (memberLines form a b set)
 unfolding setLines memberLines
 low-set form a b set h = over-more 32 32 (λ j. only (member set j) (memberLine form a b j)) (λ j p q. rw (member-past 32 set j h p))
 
@@ -104,13 +105,10 @@ session-parts i session roles word e h {l} {at} {a} {k} {b} {m} {r} {l′} small
     ∙ ap (λ (t : List ℕ). linesText (openLines i (session .«is_open») (session .user)) ++ t) (text-append (placeLines i (session .position)) (over 32 (memberLines 5 i 0 roles))))
     (then small opened (then (rw (same-length opened) small) placed (like (ap linesText (sym (low-set 5 i 0 word h ∙ rw e))) active)))
 
-session-same : (s : State) (i : ℕ) → sessionParts i (sessionAt (s .sessions) i) (wordAt (s .active) i) ≡ sessionLines s i
-unfolding sessionParts sessionLines openLines memberLines memberLine
-session-same s i = refl
-
-pub session-turn : (s : State) {l₀ : List ℕ} {at : ℕ} {l : List ℕ} {p i : ℕ} → Loop (sessionLines s) l₀ at l p i
-    → {p′ : ℕ} {l′ : List ℕ} → Wrote l p (linesText (sessionParts i (sessionAt (s .sessions) i) (wordAt (s .active) i))) p′ l′ → Loop (sessionLines s) l₀ at l′ p′ (i + 1)
-session-turn s {i = i} inv w = turn inv (like (ap linesText (sym (session-same s i))) w)
+pub session-turn : (sessions : List Session) (active : List ℕ) {l₀ : List ℕ} {at : ℕ} {l : List ℕ} {p i : ℕ} → Loop (sessionPartsAt sessions active) l₀ at l p i
+    → {p′ : ℕ} {l′ : List ℕ} → Wrote l p (linesText (sessionParts i (sessionAt sessions i) (wordAt active i))) p′ l′ → Loop (sessionPartsAt sessions active) l₀ at l′ p′ (i + 1)
+unfolding sessionPartsAt
+session-turn sessions active inv w = turn inv w
 
 -- ---- the whole state
 
@@ -122,6 +120,10 @@ granted-rows : (s : State) → over 32 (rowLines 2 (s .granted)) ≡ over 32 (λ
 unfolding rowLines memberLines memberLine
 granted-rows s = over-same 32 _ _ (λ r hr. over-same 32 _ _ (λ p hp. ap (λ (b : Bool). only b (Granted r p)) (sym (carries-word s r p hr))))
 
+session-rows : (s : State) → over 32 (sessionPartsAt (s .sessions) (s .active)) ≡ over 32 (sessionLines s)
+unfolding sessionPartsAt sessionParts sessionLines openLines memberLines memberLine
+session-rows s = refl
+
 history-one : (s : State) (o p : ℕ) → p < 32 → historyLines (s .history) (o * 32 + p) ≡ over 64 (λ u. only (did s o p u) (Did o p u))
 unfolding historyLines setLines memberLines memberLine
 history-one s o p h = rw (object-of o p h, permission-of o p h) (over-same 64 _ _ (λ u l. ap (λ (b : Bool). only b (Did o p u)) (sym (did-word s o p u h))))
@@ -129,28 +131,49 @@ history-one s o p h = rw (object-of o p h, permission-of o p h) (over-same 64 _ 
 history-rows : (s : State) → over 1024 (historyLines (s .history)) ≡ over 32 (λ o. over 32 (λ p. over 64 (λ u. only (did s o p u) (Did o p u))))
 history-rows s = over-mul 32 32 (historyLines (s .history)) ∙ over-same 32 _ _ (λ o ho. over-same 32 _ _ (λ p hp. history-one s o p hp))
 
+saved-whole : (s : State)
+    → savedText s ≡ linesText (Now (s .time) ∷ [])
+    ++ (linesText (over 64 (λ u. over 32 (λ r. only (assignedRole s u r) (Assigned u r))))
+    ++ (linesText (over 32 (λ r. over 32 (λ p. only (carries s r p) (Granted r p))))
+    ++ (linesText (over 32 (sessionLines s)) ++ linesText (over 32 (λ o. over 32 (λ p. over 64 (λ u. only (did s o p u) (Did o p u))))))))
+unfolding savedText linesOf
+saved-whole s =
+    text-append _ _ ∙ ap (λ (z : List ℕ). linesText (Now (s .time) ∷ []) ++ z)
+    (text-append _ _ ∙ ap (λ (z : List ℕ). linesText (over 64 (λ u. over 32 (λ r. only (assignedRole s u r) (Assigned u r)))) ++ z)
+    (text-append _ _ ∙ ap (λ (z : List ℕ). linesText (over 32 (λ r. over 32 (λ p. only (carries s r p) (Granted r p)))) ++ z)
+    (text-append _ _)))
+
+pub saved-parts : (s : State) → length (s .assigned) ≡ 64 → length (s .granted) ≡ 32
+    → savedText s ≡ lineText (Now (s .time))
+    ++ (linesText (over (length (s .assigned)) (rowLines 1 (s .assigned)))
+    ++ (linesText (over (length (s .granted)) (rowLines 2 (s .granted)))
+    ++ (linesText (over 32 (sessionPartsAt (s .sessions) (s .active))) ++ linesText (over 1024 (historyLines (s .history))))))
+saved-parts s ha hg = rw (ha, hg, assigned-rows s, granted-rows s, session-rows s, history-rows s, ← text-one (Now (s .time))) (saved-whole s)
+
 pub state-parts : (s : State) → length (s .assigned) ≡ 64 → length (s .granted) ≡ 32
     → {l : List ℕ} {i p : ℕ} {a : List ℕ} {q : ℕ} {b : List ℕ} {x : ℕ} {c : List ℕ} {y : ℕ} {d : List ℕ} {r : ℕ} {l′ : List ℕ} → length l ≤ lastPlace
     → Wrote l i (lineText (Now (s .time))) p a
     → Wrote a p (linesText (over (length (s .assigned)) (rowLines 1 (s .assigned)))) q b
     → Wrote b q (linesText (over (length (s .granted)) (rowLines 2 (s .granted)))) x c
-    → Wrote c x (linesText (over 32 (sessionLines s))) y d
+    → Wrote c x (linesText (over 32 (sessionPartsAt (s .sessions) (s .active)))) y d
     → Wrote d y (linesText (over 1024 (historyLines (s .history)))) r l′
     → Wrote l i (savedText s) r l′
-unfolding savedText linesOf
 state-parts s ha hg small now assigned granted sessions history =
     let one = same-length now in
     let two = same-length assigned ∙ one in
     let three = same-length granted ∙ two in
-    like
-    (text-append _ _ ∙ ap (λ (z : List ℕ). linesText (Now (s .time) ∷ []) ++ z)
-    (text-append _ _ ∙ ap (λ (z : List ℕ). linesText (over 64 (λ u. over 32 (λ r. only (assignedRole s u r) (Assigned u r)))) ++ z)
-    (text-append _ _ ∙ ap (λ (z : List ℕ). linesText (over 32 (λ r. over 32 (λ p. only (carries s r p) (Granted r p)))) ++ z)
-    (text-append _ _))))
-    (then small (one-line (Now (s .time)) now)
-    (then (rw one small) (like (ap linesText (sym (rw ha (assigned-rows s)))) assigned)
-    (then (rw two small) (like (ap linesText (sym (rw hg (granted-rows s)))) granted)
-    (then (rw three small) sessions (like (ap linesText (sym (history-rows s))) history)))))
+    like (saved-parts s ha hg)
+    (then small now (then (rw one small) assigned (then (rw two small) granted (then (rw three small) sessions history))))
+
+-- ---- whole, where it fits
+
+pub too-short : (x l : List ℕ) → length l < length x → (Refused 18 ≡ writtenOf x l) × (l ≡ lentAfter x l)
+unfolding writtenOf lentAfter
+too-short x l h = (rw (lt-leb (length x) (length l) h), rw (lt-leb (length x) (length l) h))
+
+pub fitting : (x l : List ℕ) → length x ≤ length l → length l ≤ lastPlace → {r : ℕ} {l′ : List ℕ} → Wrote l 0 x r l′ → (Length r ≡ writtenOf x l) × (l′ ≡ lentAfter x l)
+unfolding writtenOf lentAfter
+fitting x l h k w = (rw (le-leb (length x) (length l) h, measure (omega arith) w), rw (le-leb (length x) (length l) h) (at-front h w))
 
 -- ---- or a refusal
 

@@ -1,27 +1,36 @@
 -- What the code computes on the way. No reader has to believe these: each is only cited by a private contract.
 -- Assumes nothing.
-use Prim.Native.Nat.{ℕ, _/_, _%_}
+use Prim.Native.Nat.{ℕ, _+_, _/_, _%_, _≤_, _<_}
+use mathlib.Core.Path.{_≡_}
 use mathlib.Core.Bool.{Bool, cond}
 use mathlib.Core.List.{List, _++_}
-use lib.Dec.{eqb}
+use lib.ListN.{length}
+use lib.Dec.{eqb, ltb}
 use Rattle.sets.specs.Sets.{member}
-use Rattle.rules.specs.Families.{wordAt}
+use Rattle.rules.specs.Families.{wordAt, sessionAt}
 use Rattle.rules.specs.declared.sessions.Session.{Session}
-use Rattle.enforcement.specs.declared.states.State.{State}
-use Rattle.state_text.specs.Entries.{inOrder, rests}
-use Rattle.state_text.specs.Saving.{over, only, placeLines}
+use Rattle.state_text.specs.Entries.{follows, lineText}
+use Rattle.state_text.specs.Saving.{over, only, placeLines, linesText}
 use Rattle.state_text.specs.declared.entries.Entry.{Entry}
-use Rattle.state_text.specs.declared.entries.Entry.the-variants.{Assigned, Granted, Open, Active, Did}
+use Rattle.state_text.specs.declared.entries.Entry.the-variants.{Now, Assigned, Granted, Open, Place, Active, Did}
 use Rattle.state_text.specs.declared.reading.LineRead.{LineRead}
 use Rattle.state_text.specs.declared.reading.LineRead.the-variants.{Good, Bad}
 
 -- ---- reading
 
--- a line's order and what it rests on, after its form and ranges
-abbrev pub checkLine : ℕ → State → LineRead → LineRead
-checkLine next s (Bad number) = Bad number
-checkLine next s (Good parsed) =
-    cond (inOrder next (parsed .entry)) (cond (rests s (parsed .entry)) (Good parsed) (Bad 16)) (Bad 15)
+-- the session that a line names; 0 where it names none
+unfoldable pub sessionOf : Entry → ℕ
+sessionOf (Now t) = 0
+sessionOf (Assigned u r) = 0
+sessionOf (Granted r p) = 0
+sessionOf (Open i u) = i
+sessionOf (Place i x y) = i
+sessionOf (Active i r) = i
+sessionOf (Did o p u) = 0
+
+-- what a line's rank and what it rests on refuse, after its form and ranges; 0 where they refuse nothing
+abbrev pub lineNumber : ℕ → ℕ → Bool → ℕ
+lineNumber next rank rested = cond (follows next rank) (cond rested 0 16) 15
 
 abbrev pub numberIn : LineRead → ℕ
 numberIn (Good parsed) = 0
@@ -55,3 +64,28 @@ openLines i isOpen user = only isOpen (Open i user)
 unfoldable pub sessionParts : ℕ → Session → ℕ → List Entry
 sessionParts i session roles =
     openLines i (session .«is_open») (session .user) ++ (placeLines i (session .position) ++ over 32 (memberLines 5 i 0 roles))
+
+-- the lines of session i in a list of sessions, with the sets of their active roles
+unfoldable pub sessionPartsAt : List Session → List ℕ → ℕ → List Entry
+sessionPartsAt sessions active i = sessionParts i (sessionAt sessions i) (wordAt active i)
+
+-- ---- measuring
+
+-- the digits of a number below 100
+unfoldable pub width : ℕ → ℕ
+width v = cond (ltb v 10) 1 2
+
+-- a number of bytes, and a bound by which sums of them stay below a machine number's
+pub record Measured (lines : List Entry) (most r : ℕ) : Type 0 where
+  pub bytes : r ≡ length (linesText lines)
+  pub bounded : r ≤ most
+
+-- the lines of a set's members, whatever their form, where each has so many bytes beside the member's digits
+pub record SetMeasured (bytes set r : ℕ) : Type 0 where
+  pub lines : (form first second : ℕ) → ((j : ℕ) → j < 64 → length (lineText (memberLine form first second j)) ≡ bytes + width j) → r ≡ length (linesText (setLines form first second set))
+  pub bounded : r ≤ 2048
+
+-- the lines of rows, whatever their form, where each has so many bytes beside its two numbers' digits
+pub record RowsMeasured (bytes : ℕ) (words : List ℕ) (r : ℕ) : Type 0 where
+  pub lines : (form : ℕ) → ((i j : ℕ) → i < 64 → j < 64 → length (lineText (memberLine form i 0 j)) ≡ bytes + (width i + width j)) → r ≡ length (linesText (over (length words) (rowLines form words)))
+  pub bounded : r ≤ 131072

@@ -4,6 +4,7 @@ ghost use Prim.Native.Nat.{_+_, _*_, _<_};
 ghost use lib.ListN.{length};
 ghost use Rattle.state_text.specs.Entries.{entryOf, formOf, valuesOf, rank, follows};
 ghost use Rattle.state_text.specs.Causes.{Ranged};
+ghost use Rattle.state_text.specs.Parts.{sessionOf};
 
 // The forms of a saved state, a line each; a mark stands for a number of its kind.
 pub(crate) const FORMS: [u8; 87] = *b"(now ~)\n\
@@ -13,6 +14,9 @@ pub(crate) const FORMS: [u8; 87] = *b"(now ~)\n\
 (place & + +)\n\
 (active & $)\n\
 (did * % @)\n";
+
+// Where each form starts, and where the last one ends.
+pub(crate) const STARTS: [usize; 8] = [0, 8, 23, 37, 48, 62, 75, 87];
 
 // A line, by its form and its numbers.
 pub enum Entry {
@@ -84,6 +88,21 @@ impl Entry {
             }
             Entry::Active(session, role) => [session, role, 0, 0, 0, 0],
             Entry::Did(object, permission, user) => [object, permission, user, 0, 0, 0],
+        }
+    }
+
+    // The session that a line names; 0 where it names none.
+    pub(crate) fn session(self) -> usize
+        ensures { λ r. ⌜ r ≡ sessionOf self ⌝ }
+    {
+        match self {
+            Entry::Now(_) => 0,
+            Entry::Assigned(_, _) => 0,
+            Entry::Granted(_, _) => 0,
+            Entry::Open(session, _) => session as usize,
+            Entry::Place(session, _, _) => session as usize,
+            Entry::Active(session, _) => session as usize,
+            Entry::Did(_, _, _) => 0,
         }
     }
 

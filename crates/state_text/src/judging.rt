@@ -2,10 +2,10 @@
 ghost use mathlib.Core.Path.{_≡_};
 ghost use Prim.Native.Nat.{_≤_};
 ghost use Rattle.rules.specs.Acceptance.{rulesOf};
+ghost use Rattle.rules.specs.Breach.{isKept};
 ghost use Rattle.steps.specs.Lowest.{lowest};
 ghost use Rattle.enforcement.specs.States.{ruleHolds};
 use enforcement::State;
-use rules::Rule;
 use rules::RuleList;
 use rules::Tested;
 use steps::Lowest;
@@ -16,6 +16,8 @@ pub(crate) fn lowest_broken(list: RuleList, state: State) -> Lowest
     ensures { λ r. ⌜ r ≡ lowest (λ rule. ruleHolds rule state) 1 (rulesOf list) ⌝ }
 {
     let length = list.length;
+    let sessions = state.sessions;
+    let time = state.time;
     let mut i: usize = 0;
     'rules: loop {
         if i == length {
@@ -23,27 +25,26 @@ pub(crate) fn lowest_broken(list: RuleList, state: State) -> Lowest
         }
         let slot = list.slots[i];
         let rule = slot.rule;
-        if !holds(state, rule) {
+        let tested = rule.test(
+            &state.assigned,
+            &state.assigned,
+            &state.granted,
+            sessions,
+            &state.active,
+            &state.history,
+            time,
+        );
+        if !is_kept(tested) {
             break 'rules Lowest::BrokenAt(i + 1);
         }
         i += 1;
     }
 }
 
-fn holds(state: State, rule: Rule) -> bool
-    ensures { λ r. ⌜ r ≡ ruleHolds rule state ⌝ }
+fn is_kept(tested: Tested) -> bool
+    ensures { λ r. ⌜ r ≡ isKept tested ⌝ }
 {
-    let sessions = state.sessions;
-    let time = state.time;
-    match rule.test(
-        &state.assigned,
-        &state.assigned,
-        &state.granted,
-        sessions,
-        &state.active,
-        &state.history,
-        time,
-    ) {
+    match tested {
         Tested::Kept => true,
         Tested::Broken(_) => false,
     }

@@ -2,9 +2,11 @@
 mod entries;
 mod judging;
 mod lines;
+mod measuring;
 mod reading;
 mod writing;
 
+pub use measuring::saved_length;
 pub use reading::LoadedState;
 pub use reading::read_state;
 pub use writing::write_state;

@@ -1,140 +1,129 @@
-// What a line puts into a state, and what it rests on.
+// What a line puts into a state, and what it rests on. Each function has the part of a state that a line can change, and leaves it as it
+// is where the line is of another form: the state is changed where it stands, and is not handed over at each line.
 ghost use mathlib.Core.Path.{_≡_};
-ghost use mathlib.Core.Bool.{true, _&&_};
 ghost use Prim.Native.Nat.{_<_};
-ghost use lib.ListN.{set};
-ghost use Rattle.places.specs.declared.Position.the-variants.{Known};
-ghost use Rattle.enforcement.specs.States.{holdsRole, isOpen, userOf, positionOf};
-ghost use Rattle.enforcement.specs.Steps.{withTime, withAssigned, withGranted, withSessions, withActive, withHistory, put, session};
+ghost use lib.ListN.{length, set};
+ghost use Rattle.rules.specs.Families.{sessionAt, hasRole};
+ghost use Rattle.enforcement.specs.declared.states.State.{State};
 ghost use Rattle.state_text.specs.Entries.{withLine, rests};
 ghost use Rattle.state_text.specs.Causes.{Ranged};
+ghost use Rattle.state_text.specs.Parts.{sessionOf};
 use crate::entries::Entry;
 use enforcement::Session;
-use enforcement::State;
 use places::Point;
 use places::Position;
 use sets::word32;
 use sets::word64;
 
-// The state with one line more.
-pub(crate) fn with_line(state: State, entry: Entry) -> State
+// The time after a line.
+pub(crate) fn time_after(time: u64, entry: Entry) -> u64
+    ensures { λ r. ⌜ ((s : State) → s .time ≡ time → withLine s entry .time ≡ r) ⌝ }
+{
+    let Entry::Now(now) = entry else {
+        return time;
+    };
+    now
+}
+
+// The roles of each user after a line.
+pub(crate) fn put_assigned(rows: &mut [u32; 64], entry: Entry)
     requires { ⌜ Ranged entry ⌝ }
-    ensures { λ r. ⌜ r ≡ withLine state entry ⌝ }
+    ensures { λ r. ⌜ ((s : State) → s .assigned ≡ now (rows .entry) → withLine s entry .assigned ≡ now (rows .exit)) ⌝ }
+{
+    let Entry::Assigned(user, role) = entry else {
+        return;
+    };
+    let i = user as usize;
+    rows[i] = word32::with(rows[i], role as usize);
+}
+
+// The permissions of each role after a line.
+pub(crate) fn put_granted(rows: &mut [u32; 32], entry: Entry)
+    requires { ⌜ Ranged entry ⌝ }
+    ensures { λ r. ⌜ ((s : State) → s .granted ≡ now (rows .entry) → withLine s entry .granted ≡ now (rows .exit)) ⌝ }
+{
+    let Entry::Granted(role, permission) = entry else {
+        return;
+    };
+    let i = role as usize;
+    rows[i] = word32::with(rows[i], permission as usize);
+}
+
+// The session that a line names, after the line.
+pub(crate) fn session_after(session: Session, entry: Entry) -> Session
+    requires { ⌜ Ranged entry ⌝ }
+    ensures { λ r. ⌜ ((s : State) → sessionAt (s .sessions) (sessionOf entry) ≡ session → withLine s entry .sessions ≡ set (s .sessions) (sessionOf entry) r) ⌝ }
 {
     match entry {
-        Entry::Now(time) => with_time(state, time),
-        Entry::Assigned(user, role) => with_assigned(state, user as usize, role as usize),
-        Entry::Granted(role, permission) => {
-            with_granted(state, role as usize, permission as usize)
+        Entry::Now(_) => session,
+        Entry::Assigned(_, _) => session,
+        Entry::Granted(_, _) => session,
+        Entry::Open(_, user) => {
+            let position = session.position;
+            Session {
+                is_open: true,
+                user: user as u32,
+                position,
+            }
         }
-        Entry::Open(session, user) => with_open(state, session as usize, user as u32),
-        Entry::Place(session, x, y) => with_place(state, session as usize, Point { x, y }),
-        Entry::Active(session, role) => with_active(state, session as usize, role as usize),
-        Entry::Did(object, permission, user) => {
-            with_did(state, (object * 32 + permission) as usize, user as usize)
-        }
+        Entry::Place(_, x, y) => Session {
+            is_open: session.is_open,
+            user: session.user,
+            position: Position::Known(Point { x, y }),
+        },
+        Entry::Active(_, _) => session,
+        Entry::Did(_, _, _) => session,
     }
 }
 
-fn with_time(mut state: State, time: u64) -> State
-    ensures { λ r. ⌜ r ≡ withTime state time ⌝ }
+// The active roles of each session after a line.
+pub(crate) fn put_active(rows: &mut [u32; 32], entry: Entry)
+    requires { ⌜ Ranged entry ⌝ }
+    ensures { λ r. ⌜ ((s : State) → s .active ≡ now (rows .entry) → withLine s entry .active ≡ now (rows .exit)) ⌝ }
 {
-    state.time = time;
-    state
-}
-
-fn with_assigned(mut state: State, user: usize, role: usize) -> State
-    requires { ⌜ user < 64 ⌝ }
-    ensures { λ r. ⌜ r ≡ withAssigned state (put 32 (state .assigned) user role) ⌝ }
-{
-    state.assigned[user] = word32::with(state.assigned[user], role);
-    state
-}
-
-fn with_granted(mut state: State, role: usize, permission: usize) -> State
-    requires { ⌜ role < 32 ⌝ }
-    ensures { λ r. ⌜ r ≡ withGranted state (put 32 (state .granted) role permission) ⌝ }
-{
-    state.granted[role] = word32::with(state.granted[role], permission);
-    state
-}
-
-fn with_open(mut state: State, i: usize, user: u32) -> State
-    requires { ⌜ i < 32 ⌝ }
-    ensures { λ r. ⌜ r ≡ withSessions state (set (state .sessions) i (session true user (positionOf state i))) ⌝ }
-{
-    let old = state.sessions[i];
-    let position = old.position;
-    state.sessions[i] = Session {
-        is_open: true,
-        user,
-        position,
+    let Entry::Active(session, role) = entry else {
+        return;
     };
-    state
+    let i = session as usize;
+    rows[i] = word32::with(rows[i], role as usize);
 }
 
-fn with_place(mut state: State, i: usize, point: Point) -> State
-    requires { ⌜ i < 32 ⌝ }
-    ensures { λ r. ⌜ r ≡ withSessions state (set (state .sessions) i (session (isOpen state i) (userOf state i) (Known point))) ⌝ }
+// The users of each object and permission after a line.
+pub(crate) fn put_did(words: &mut [u64; 1024], entry: Entry)
+    requires { ⌜ Ranged entry ⌝ }
+    ensures { λ r. ⌜ ((s : State) → s .history ≡ now (words .entry) → withLine s entry .history ≡ now (words .exit)) ⌝ }
 {
-    let old = state.sessions[i];
-    state.sessions[i] = Session {
-        is_open: old.is_open,
-        user: old.user,
-        position: Position::Known(point),
+    let Entry::Did(object, permission, user) = entry else {
+        return;
     };
-    state
-}
-
-fn with_active(mut state: State, i: usize, role: usize) -> State
-    requires { ⌜ i < 32 ⌝ }
-    ensures { λ r. ⌜ r ≡ withActive state (put 32 (state .active) i role) ⌝ }
-{
-    state.active[i] = word32::with(state.active[i], role);
-    state
-}
-
-fn with_did(mut state: State, i: usize, user: usize) -> State
-    requires { ⌜ i < 1024 ⌝ }
-    ensures { λ r. ⌜ r ≡ withHistory state (put 64 (state .history) i user) ⌝ }
-{
-    state.history[i] = word64::with(state.history[i], user);
-    state
+    let i = (object * 32 + permission) as usize;
+    words[i] = word64::with(words[i], user as usize);
 }
 
 // A place or a role rests on its session's line, and a role on its assignment.
-pub(crate) fn rests(state: State, entry: Entry) -> bool
-    requires { ⌜ Ranged entry ⌝ }
-    ensures { λ r. ⌜ r ≡ rests state entry ⌝ }
+pub(crate) fn rests(entry: Entry, session: Session, assigned: &[u32; 64]) -> bool
+    requires { ⌜ Ranged entry × (length (now assigned) ≡ 64) ⌝ }
+    ensures { λ r. ⌜ ((s : State) → sessionAt (s .sessions) (sessionOf entry) ≡ session → s .assigned ≡ now (assigned .entry) → r ≡ rests s entry) ⌝ }
 {
     match entry {
         Entry::Now(_) => true,
         Entry::Assigned(_, _) => true,
         Entry::Granted(_, _) => true,
         Entry::Open(_, _) => true,
-        Entry::Place(session, _, _) => is_open(state, session as usize),
-        Entry::Active(session, role) => is_held(state, session as usize, role as usize),
+        Entry::Place(_, _, _) => session.is_open,
+        Entry::Active(_, role) => session.is_open & has_role(assigned, session.user, role as usize),
         Entry::Did(_, _, _) => true,
     }
 }
 
-fn is_open(state: State, i: usize) -> bool
-    requires { ⌜ i < 32 ⌝ }
-    ensures { λ r. ⌜ r ≡ isOpen state i ⌝ }
+// A user is assigned a role; one past the last is assigned none.
+fn has_role(assigned: &[u32; 64], user: u32, role: usize) -> bool
+    requires { ⌜ length (now assigned) ≡ 64 ⌝ }
+    ensures { λ r. ⌜ r ≡ hasRole (now (assigned .entry)) user role ⌝ }
 {
-    let session = state.sessions[i];
-    session.is_open
-}
-
-// The session is open for a user who holds the role. A user past the last holds none.
-fn is_held(state: State, i: usize, role: usize) -> bool
-    requires { ⌜ i < 32 ⌝ }
-    ensures { λ r. ⌜ r ≡ (isOpen state i && holdsRole state (userOf state i) role) ⌝ }
-{
-    let session = state.sessions[i];
-    let user = session.user as usize;
-    if 64 <= user {
+    let i = user as usize;
+    if 64 <= i {
         return false;
     }
-    session.is_open & word32::member(state.assigned[user], role)
+    word32::member(assigned[i], role)
 }

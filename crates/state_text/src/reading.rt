@@ -1,13 +1,25 @@
 // A saved text as a state.
 ghost use mathlib.Core.Path.{_≡_};
+ghost use lib.ListN.{length};
+ghost use Rattle.rules.specs.Families.{sessionAt};
+ghost use Rattle.enforcement.specs.declared.states.State.{State};
+ghost use Rattle.state_text.specs.Entries.{rests};
 ghost use Rattle.state_text.specs.Reading.{refused, readLine, readLines, readState, loadedOf};
-ghost use Rattle.state_text.specs.Parts.{checkLine, numberIn};
+ghost use Rattle.state_text.specs.Causes.{Ranged};
+ghost use Rattle.state_text.specs.Parts.{sessionOf, lineNumber, numberIn};
 use crate::entries::Entry;
 use crate::entries::FORMS;
+use crate::entries::STARTS;
 use crate::entries::follows;
 use crate::judging::lowest_broken;
+use crate::lines::put_active;
+use crate::lines::put_assigned;
+use crate::lines::put_did;
+use crate::lines::put_granted;
 use crate::lines::rests;
-use crate::lines::with_line;
+use crate::lines::session_after;
+use crate::lines::time_after;
+use enforcement::Session;
 use enforcement::State;
 use rules::RuleList;
 use steps::Lowest;
@@ -42,8 +54,7 @@ pub fn read_state(list: RuleList, text: &[u8]) -> LoadedState
     if loaded.number != 0 {
         return loaded;
     }
-    let state = loaded.state;
-    let lowest = lowest_broken(list, state);
+    let lowest = lowest_broken(list, loaded.state);
     let Lowest::BrokenAt(rule) = lowest else {
         return loaded;
     };
@@ -62,14 +73,26 @@ fn read_lines(text: &[u8]) -> LoadedState
     let mut line: usize = 1;
     let mut next: u64 = 0;
     while 0 < rest.len() {
-        let answer = read_line(state, next, rest);
+        let answer = scan_line(rest);
         let LineRead::Good(parsed) = answer else {
             return refused(number_in(answer), line);
         };
         let entry = parsed.entry;
         let end = parsed.length;
-        next = entry.rank() + 1;
-        state = with_line(state, entry);
+        let i = entry.session();
+        let session = state.sessions[i];
+        let rank = entry.rank();
+        let number = check_line(entry, rank, next, session, &state.assigned);
+        if number != 0 {
+            return refused(number, line);
+        }
+        state.time = time_after(state.time, entry);
+        put_assigned(&mut state.assigned, entry);
+        put_granted(&mut state.granted, entry);
+        state.sessions[i] = session_after(session, entry);
+        put_active(&mut state.active, entry);
+        put_did(&mut state.history, entry);
+        next = rank + 1;
         rest = &rest[end..];
         line += 1;
     }
@@ -80,42 +103,61 @@ fn read_lines(text: &[u8]) -> LoadedState
     }
 }
 
-// The line at the front of the text, after the lines that left this state; next is 0 at the first line, and then 1 more than the last
-// line's rank.
-fn read_line(state: State, next: u64, text: &[u8]) -> LineRead
-    ensures { λ r. ⌜ r ≡ checkLine next state (readLine (now (text .entry))) ⌝ }
+// A line after the lines that left this session and these roles: 15 or 16, or 0 where it is good; next is 0 at the first line, and then 1
+// more than the last line's rank.
+fn check_line(entry: Entry, rank: u64, next: u64, session: Session, assigned: &[u32; 64]) -> u64
+    requires { ⌜ Ranged entry × (length (now assigned) ≡ 64) ⌝ }
+    ensures { λ r. ⌜ ((s : State) → sessionAt (s .sessions) (sessionOf entry) ≡ session → s .assigned ≡ now (assigned .entry) → r ≡ lineNumber next rank (rests s entry)) ⌝ }
 {
-    let answer = scan_line(text);
-    let LineRead::Good(parsed) = answer else {
-        return answer;
-    };
-    let entry = parsed.entry;
-    if !follows(next, entry.rank()) {
-        return LineRead::Bad(15);
+    if !follows(next, rank) {
+        return 15;
     }
-    if !rests(state, entry) {
-        return LineRead::Bad(16);
+    if !rests(entry, session, assigned) {
+        return 16;
     }
-    answer
+    0
 }
 
 // The line at the front of the text: its form, with each number in its range.
 fn scan_line(text: &[u8]) -> LineRead
     ensures { λ r. ⌜ r ≡ readLine (now (text .entry)) ⌝ }
 {
-    let found = forms::find(&FORMS, text);
+    let found = forms::find_likely(&FORMS, &STARTS, likely(text), text);
     let form = found.form;
     let values = found.values;
     if 7 <= form {
         return LineRead::Bad(10);
     }
-    if !forms::in_range(&FORMS, form, &values) {
+    if !forms::line_in_range(&FORMS, &STARTS, form, &values) {
         return LineRead::Bad(11);
     }
     LineRead::Good(Parsed {
         entry: Entry::of_values(form, &values),
         length: found.length,
     })
+}
+
+// The form that a line most likely has, by its first letters. A wrong guess costs time and nothing else.
+fn likely(text: &[u8]) -> usize {
+    if text.len() < 3 {
+        return 0;
+    }
+    match text[1] {
+        b'd' => 6,
+        b'g' => 2,
+        b'n' => 0,
+        b'o' => 3,
+        b'p' => 4,
+        _ => form_by_second(text[2]),
+    }
+}
+
+// Of `assigned` and `active`.
+fn form_by_second(letter: u8) -> usize {
+    if letter == b's' {
+        return 1;
+    }
+    5
 }
 
 fn number_in(answer: LineRead) -> u64

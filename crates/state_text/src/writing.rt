@@ -1,14 +1,16 @@
 // A state as a saved text. Every function writes its part at a place and returns where it ends; bytes past the end of the lent space are
-// left out, so that the same functions measure a text in an empty part of it.
+// left out.
 ghost use mathlib.Core.Path.{_≡_};
 ghost use Prim.Native.Nat.{_<_};
 ghost use lib.ListN.{length};
 ghost use Rattle.forms.specs.Writing.{Wrote};
 ghost use Rattle.state_text.specs.Entries.{lineText};
-ghost use Rattle.state_text.specs.Saving.{over, placeLines, sessionLines, linesText, savedText, writtenState, lentState};
-ghost use Rattle.state_text.specs.Parts.{memberLine, memberLines, setLines, rowLines, historyLines, openLines, sessionParts};
+ghost use Rattle.state_text.specs.Saving.{over, placeLines, linesText, savedText, writtenState, lentState};
+ghost use Rattle.state_text.specs.Parts.{memberLine, memberLines, setLines, rowLines, historyLines, openLines, sessionParts, sessionPartsAt};
 use crate::entries::Entry;
 use crate::entries::FORMS;
+use crate::entries::STARTS;
+use crate::measuring::saved_length;
 use enforcement::Session;
 use enforcement::State;
 use forms::Written;
@@ -22,8 +24,7 @@ pub fn write_state(state: State, out: &mut [u8]) -> Written
     if !state.is_accepted() {
         return Written::Refused(40);
     }
-    let need = write_lines(state, &mut out[..0], 0);
-    if out.len() < need {
+    if out.len() < saved_length(state) {
         return Written::Refused(18);
     }
     let length = write_lines(state, out, 0);
@@ -35,13 +36,11 @@ fn write_lines(state: State, out: &mut [u8], at: usize) -> usize
     ensures { λ r. ⌜ Wrote (now (out .entry)) at (savedText state) r (now (out .exit)) ⌝ }
 {
     let after_time = write_line(Entry::Now(state.time), out, at);
-    let assigned = state.assigned;
-    let after_assigned = write_rows(1, &assigned, out, after_time);
-    let granted = state.granted;
-    let after_granted = write_rows(2, &granted, out, after_assigned);
-    let after_sessions = write_sessions(state, out, after_granted);
-    let history = state.history;
-    write_history(&history, out, after_sessions)
+    let after_assigned = write_rows(1, &state.assigned, out, after_time);
+    let after_granted = write_rows(2, &state.granted, out, after_assigned);
+    let sessions = state.sessions;
+    let after_sessions = write_sessions(sessions, &state.active, out, after_granted);
+    write_history(&state.history, out, after_sessions)
 }
 
 // The lines of the sets of numbers below 32 that a list holds.
@@ -57,15 +56,14 @@ fn write_rows(form: usize, words: &[u32], out: &mut [u8], at: usize) -> usize
     place
 }
 
-fn write_sessions(state: State, out: &mut [u8], at: usize) -> usize
-    ensures { λ r. ⌜ Wrote (now (out .entry)) at (linesText (over 32 (sessionLines state))) r (now (out .exit)) ⌝ }
+fn write_sessions(sessions: [Session; 32], active: &[u32; 32], out: &mut [u8], at: usize) -> usize
+    ensures { λ r. ⌜ Wrote (now (out .entry)) at (linesText (over 32 (sessionPartsAt sessions (now (active .entry))))) r (now (out .exit)) ⌝ }
 {
     let mut place = at;
     let mut i: usize = 0;
     while i < 32 {
-        let session = state.sessions[i];
-        let roles = state.active[i];
-        place = write_session(i as u64, session, roles, out, place);
+        let session = sessions[i];
+        place = write_session(i as u64, session, active[i], out, place);
         i += 1;
     }
     place
@@ -156,14 +154,14 @@ fn member_line(form: usize, first: u64, second: u64, j: u64) -> Entry
     }
 }
 
-fn write_line(entry: Entry, out: &mut [u8], at: usize) -> usize
+pub(crate) fn write_line(entry: Entry, out: &mut [u8], at: usize) -> usize
     ensures { λ r. ⌜ Wrote (now (out .entry)) at (lineText entry) r (now (out .exit)) ⌝ }
 {
     let values = entry.values();
-    forms::write(&FORMS, entry.form(), &values, out, at)
+    forms::write_line(&FORMS, &STARTS, entry.form(), &values, out, at)
 }
 
-fn wide(word: u32) -> u64
+pub(crate) fn wide(word: u32) -> u64
     ensures { λ r. ⌜ r ≡ word ⌝ }
 {
     word as u64

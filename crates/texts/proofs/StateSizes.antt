@@ -3,7 +3,6 @@ use mathlib.Core.Path.{_≡_, refl, sym, ap, _∙_, subst}
 use mathlib.Core.Bool.{Bool, true, false, cond}
 use mathlib.Core.List.{List, [], _∷_, _++_}
 use Prim.Native.Nat.{ℕ, zero, suc, _+_, _-_, _*_, _/_, _%_, _≤_, _<_}
-use Prim.Native.String.{String}
 use native.Mathlib.Nat.{suc-mul, mul-add}
 use native.Mathlib.Omega.{arith}
 use lib.ListN.{length, getD, replicate, getD-replicate, length-replicate, length-append}
@@ -29,34 +28,28 @@ use Rattle.enforcement.specs.Reached.{Typed, Held}
 use Rattle.enforcement.specs.declared.states.State.{State}
 use Rattle.enforcement.proofs.Reaching.{Good}
 use Rattle.forms.specs.Numbers.{digitsOf, digitsWithin, signedOf, signedCode}
-use Rattle.forms.specs.Kinds.{isSlot, kindOf, lookup}
-use Rattle.forms.specs.Forms.{textBy, itemText, fill}
-use Rattle.forms.specs.Tables.{bytes, linesIn, formAt}
-use Rattle.forms.proofs.Digits.{digits-small, digits-step}
 use Rattle.forms.proofs.Puts.{digits-length}
 use Rattle.rule_text.specs.Lines.{listText}
 use Rattle.rule_text.specs.Reading.{listOf}
 use Rattle.rule_text.proofs.Slots.{rules-of-list, list-accepted}
-use Rattle.state_text.specs.Entries.{savedForms, formOf, valuesOf, lineText}
+use Rattle.state_text.specs.Entries.{lineText}
 use Rattle.state_text.specs.Saving.{over, only, placeLines, sessionLines, linesOf, linesText, savedText}
+use Rattle.state_text.specs.Parts.{width}
 use Rattle.state_text.specs.declared.entries.Entry.{Entry}
 use Rattle.state_text.specs.declared.entries.Entry.the-variants.{Now, Assigned, Granted, Open, Place, Active, Did}
 use Rattle.state_text.proofs.Rows.{over-zero, over-suc}
-use Rattle.state_text.proofs.Lengths.{text-append, text-none, text-one}
+use Rattle.state_text.proofs.JoinedLines.{text-append, text-none, text-one}
+use Rattle.state_text.proofs.LineSizes.{digits-width, width-most, now-bytes, place-bytes, assigned-size, granted-size, open-size, active-size, did-size}
 use Rattle.state_text.proofs.Keeping.{time-accepted, open-ranged, position-ranged}
 use Rattle.state_text.proofs.RoundTrips.{good-back}
-use Rattle.step_text.specs.Rows.{spaced, lineWith}
 use Rattle.texts.specs.Sizes.{farthest, fullest}
 use Rattle.texts.specs.SavedRuns.{holding, stateUnder, loadTexts, refusedReport, savedReport, copyReport}
 use Rattle.texts.specs.Causes.{RulesThen, RunRefused, short-state}
-use Rattle.texts.specs.declared.saved_runs.Part.the-variants as part
+use Rattle.texts.specs.declared.saved_runs.Text.the-variants as Text
 use Rattle.texts.proofs.SavedRunning.{last-accepted}
 use Rattle.texts.proofs.SavedCauses.{load-state, start-accepted}
 
--- ---- the digits of numbers below 100
-
-unfoldable width : ℕ → ℕ
-width v = cond (ltb v 10) 1 2
+-- ---- the digits of the numbers below n
 
 unfoldable widths : ℕ → ℕ
 widths zero = 0
@@ -69,78 +62,6 @@ widths-32 = refl
 widths-64 : widths 64 ≡ 118
 unfolding widths width
 widths-64 = refl
-
-digits-width : (v : ℕ) → v < 100 → length (digitsOf v) ≡ width v
-unfolding width
-digits-width v h = go (ltb v 10) refl
-  where
-    go : (b : Bool) → ltb v 10 ≡ b → length (digitsOf v) ≡ cond b 1 2
-    go true e = ap length (digits-small v (ltb-true v 10 e))
-    go false e =
-        let ten : 10 ≤ v = ltb-false v 10 e in
-        let small : v / 10 < 10 = omega arith in
-        ap length (digits-step v ten ∙ ap (λ (t : List ℕ). t ++ ((48 + v % 10) ∷ [])) (digits-small (v / 10) small))
-
--- ---- the bytes of a line
-
-abbrev total : List (List ℕ) → ℕ
-total [] = 2
-total (number ∷ numbers) = suc (length number + total numbers)
-
-spaced-size : (numbers : List (List ℕ)) → length (spaced numbers) ≡ total numbers
-spaced-size [] = refl
-spaced-size (number ∷ numbers) = omega (arith, length-append number (spaced numbers), spaced-size numbers)
-
-line-size : (name : String) (numbers : List (List ℕ)) → length (lineWith name numbers) ≡ suc (length (bytes name) + total numbers)
-line-size name numbers = omega (arith, length-append (bytes name) (spaced numbers), spaced-size numbers)
-
--- the name and the numbers of a line
-abbrev LineReads : Entry → Type 0
-LineReads (Now t) = lineText (Now t) ≡ lineWith "now" (digitsOf t ∷ [])
-LineReads (Assigned u r) = lineText (Assigned u r) ≡ lineWith "assigned" (digitsOf u ∷ digitsOf r ∷ [])
-LineReads (Granted r p) = lineText (Granted r p) ≡ lineWith "granted" (digitsOf r ∷ digitsOf p ∷ [])
-LineReads (Open i u) = lineText (Open i u) ≡ lineWith "open" (digitsOf i ∷ digitsOf u ∷ [])
-LineReads (Place i x y) = lineText (Place i x y) ≡ lineWith "place" (digitsOf i ∷ signedOf (signedCode x) ∷ signedOf (signedCode y) ∷ [])
-LineReads (Active i r) = lineText (Active i r) ≡ lineWith "active" (digitsOf i ∷ digitsOf r ∷ [])
-LineReads (Did o p u) = lineText (Did o p u) ≡ lineWith "did" (digitsOf o ∷ digitsOf p ∷ digitsOf u ∷ [])
-
-reads : (e : Entry) → LineReads e
-unfolding lineText formOf valuesOf fill itemText textBy formAt linesIn savedForms isSlot kindOf lookup
-reads (Now t) = refl
-reads (Assigned u r) = refl
-reads (Granted r p) = refl
-reads (Open i u) = refl
-reads (Place i x y) = refl
-reads (Active i r) = refl
-reads (Did o p u) = refl
-
-now-size : (t : ℕ) → length (lineText (Now t)) ≡ 7 + length (digitsOf t)
-now-size t = ap length (reads (Now t)) ∙ line-size "now" (digitsOf t ∷ []) ∙ omega arith
-
-assigned-size : (u r : ℕ) → u < 64 → r < 32 → length (lineText (Assigned u r)) ≡ 13 + (width u + width r)
-assigned-size u r h k =
-    ap length (reads (Assigned u r)) ∙ line-size "assigned" (digitsOf u ∷ digitsOf r ∷ []) ∙ omega (arith, digits-width u (omega arith), digits-width r (omega arith))
-
-granted-size : (r p : ℕ) → r < 32 → p < 32 → length (lineText (Granted r p)) ≡ 12 + (width r + width p)
-granted-size r p h k =
-    ap length (reads (Granted r p)) ∙ line-size "granted" (digitsOf r ∷ digitsOf p ∷ []) ∙ omega (arith, digits-width r (omega arith), digits-width p (omega arith))
-
-open-size : (i u : ℕ) → i < 32 → u < 64 → length (lineText (Open i u)) ≡ 9 + (width i + width u)
-open-size i u h k =
-    ap length (reads (Open i u)) ∙ line-size "open" (digitsOf i ∷ digitsOf u ∷ []) ∙ omega (arith, digits-width i (omega arith), digits-width u (omega arith))
-
-place-size : (i : ℕ) (x y : ℤ) → i < 32 → length (lineText (Place i x y)) ≡ 11 + (width i + (length (signedOf (signedCode x)) + length (signedOf (signedCode y))))
-place-size i x y h =
-    ap length (reads (Place i x y)) ∙ line-size "place" (digitsOf i ∷ signedOf (signedCode x) ∷ signedOf (signedCode y) ∷ []) ∙ omega (arith, digits-width i (omega arith))
-
-active-size : (i r : ℕ) → i < 32 → r < 32 → length (lineText (Active i r)) ≡ 11 + (width i + width r)
-active-size i r h k =
-    ap length (reads (Active i r)) ∙ line-size "active" (digitsOf i ∷ digitsOf r ∷ []) ∙ omega (arith, digits-width i (omega arith), digits-width r (omega arith))
-
-did-size : (o p u : ℕ) → o < 32 → p < 32 → u < 64 → length (lineText (Did o p u)) ≡ 9 + (width o + (width p + width u))
-did-size o p u h k l =
-    ap length (reads (Did o p u)) ∙ line-size "did" (digitsOf o ∷ digitsOf p ∷ digitsOf u ∷ [])
-    ∙ omega (arith, digits-width o (omega arith), digits-width p (omega arith), digits-width u (omega arith))
 
 -- ---- the bytes of all lines, at most or exactly
 
@@ -216,14 +137,6 @@ only-most : (b : Bool) (e : Entry) {n : ℕ} → (b ≡ true → length (lineTex
 only-most true e h = rw (text-one e) (h refl)
 only-most false e h = rw text-none (omega arith)
 
-user-most : (u : ℕ) → width u ≤ 2
-unfolding width
-user-most u = go (ltb u 10)
-  where
-    go : (b : Bool) → cond b 1 2 ≤ 2
-    go true = omega arith
-    go false = omega arith
-
 coordinate-most : (z : ℤ) → onGrid z ≡ true → length (signedOf (signedCode z)) ≤ 8
 unfolding signedOf signedCode
 coordinate-most (pos n) h =
@@ -239,25 +152,25 @@ unfolding positionInRange pointInRange
 place-most i Unknown l h = rw text-none (omega arith)
 place-most i (Known point) l h =
     let g = both (onGrid (point .x)) (onGrid (point .y)) h in
-    rw (text-one (Place i (point .x) (point .y))) (omega (arith, place-size i (point .x) (point .y) l, coordinate-most (point .x) (g .0), coordinate-most (point .y) (g .1)))
+    rw (text-one (Place i (point .x) (point .y))) (omega (arith, place-bytes i (point .x) (point .y), digits-width i (omega arith), coordinate-most (point .x) (g .0), coordinate-most (point .y) (g .1)))
 
 -- no state that 40 does not refuse has a longer text
 pub state-most : (s : State) → stateAccepted s ≡ true → length (savedText s) ≤ 997501
 state-most s accepted =
     state-sum (λ a b. a ≤ b) (omega arith) (λ a b c d h k. omega arith) s
     (record {
-      now = rw (text-one (Now (s .time))) (omega (arith, now-size (s .time), digits-length 9 (s .time) (omega (arith, time-accepted s accepted))));
-      assigned = λ u r hu hr. only-most (assignedRole s u r) (Assigned u r) (λ e. omega (arith, assigned-size u r hu hr));
-      granted = λ r p hr hp. only-most (carries s r p) (Granted r p) (λ e. omega (arith, granted-size r p hr hp));
-      opened = λ i h. only-most (isOpen s i) (Open i (userOf s i)) (λ e. omega (arith, open-size i (userOf s i) h (open-ranged s accepted i h e .0), user-most (userOf s i)));
+      now = rw (text-one (Now (s .time))) (omega (arith, now-bytes (s .time), digits-length 9 (s .time) (omega (arith, time-accepted s accepted))));
+      assigned = λ u r hu hr. only-most (assignedRole s u r) (Assigned u r) (λ e. omega (arith, assigned-size u r (omega arith) (omega arith)));
+      granted = λ r p hr hp. only-most (carries s r p) (Granted r p) (λ e. omega (arith, granted-size r p (omega arith) (omega arith)));
+      opened = λ i h. only-most (isOpen s i) (Open i (userOf s i)) (λ e. let user = open-ranged s accepted i h e .0 in omega (arith, open-size i (userOf s i) (omega arith) (omega arith), width-most (userOf s i)));
       placed = λ i h. place-most i (positionOf s i) h (position-ranged s accepted i h);
-      activated = λ i r h hr. only-most (activeRole s i r) (Active i r) (λ e. omega (arith, active-size i r h hr));
-      done = λ o p u ho hp hu. only-most (did s o p u) (Did o p u) (λ e. omega (arith, did-size o p u ho hp hu));
+      activated = λ i r h hr. only-most (activeRole s i r) (Active i r) (λ e. omega (arith, active-size i r (omega arith) (omega arith)));
+      done = λ o p u ho hp hu. only-most (did s o p u) (Did o p u) (λ e. omega (arith, did-size o p u (omega arith) (omega arith) (omega arith)));
     })
 
 -- so that a space of that size for the state after steps is never refused
 pub state-room : (rules saved text : List ℕ) (answersRoom stateRoom : ℕ) → 997501 ≤ stateRoom → (number place : ℕ)
-    → RunRefused rules saved text answersRoom stateRoom part.StateSpace number place → ⊥
+    → RunRefused rules saved text answersRoom stateRoom Text.StateSpace number place → ⊥
 state-room rules saved text answersRoom stateRoom h number place (short-state list s given r fits long) =
     omega (arith, state-most (lastState s (runOf list s given)) (last-accepted list s given (start-accepted rules saved text r) .unrefused))
 
@@ -292,11 +205,11 @@ unfolding fullest
 full-time = time-long
 
 full-open : (session : Session) → session ≡ farthest → (i : ℕ) → i < 32 → length (linesText (only (session .«is_open») (Open i (session .user)))) ≡ 11 + width i
-full-open session e i h = rw (e, text-one (Open i 63)) (open-size i 63 h (omega arith) ∙ omega (arith, width-63))
+full-open session e i h = rw (e, text-one (Open i 63)) (open-size i 63 (omega arith) (omega arith) ∙ omega (arith, width-63))
 
 full-place : (session : Session) → session ≡ farthest → (i : ℕ) → i < 32 → length (linesText (placeLines i (session .position))) ≡ 27 + width i
 full-place session e i h =
-    rw (e, text-one (Place i (negsuc 999999) (negsuc 999999))) (place-size i (negsuc 999999) (negsuc 999999) h ∙ omega (arith, coordinate-long))
+    rw (e, text-one (Place i (negsuc 999999) (negsuc 999999))) (place-bytes i (negsuc 999999) (negsuc 999999) ∙ omega (arith, digits-width i (omega arith), coordinate-long))
 
 module _ where
   full-session : (i : ℕ) → i < 32 → sessionAt (fullest .sessions) i ≡ farthest
@@ -344,13 +257,13 @@ pub fullest-text : length (savedText fullest) ≡ 997501
 fullest-text =
     state-sum (λ a b. a ≡ b) refl (λ a b c d h k. rw (h, k)) fullest
     (record {
-      now = rw (text-one (Now (fullest .time))) (now-size (fullest .time) ∙ ap (λ (n : ℕ). 7 + n) full-time);
-      assigned = λ u r hu hr. only-line (assignedRole fullest u r) (Assigned u r) (full-assigned u r hu hr) (assigned-size u r hu hr);
-      granted = λ r p hr hp. only-line (carries fullest r p) (Granted r p) (full-carries r p hr hp) (granted-size r p hr hp);
+      now = rw (text-one (Now (fullest .time))) (now-bytes (fullest .time) ∙ ap (λ (n : ℕ). 7 + n) full-time);
+      assigned = λ u r hu hr. only-line (assignedRole fullest u r) (Assigned u r) (full-assigned u r hu hr) (assigned-size u r (omega arith) (omega arith));
+      granted = λ r p hr hp. only-line (carries fullest r p) (Granted r p) (full-carries r p hr hp) (granted-size r p (omega arith) (omega arith));
       opened = λ i h. full-open (sessionAt (fullest .sessions) i) (full-session i h) i h;
       placed = λ i h. full-place (sessionAt (fullest .sessions) i) (full-session i h) i h;
-      activated = λ i r h hr. only-line (activeRole fullest i r) (Active i r) (full-active i r h hr) (active-size i r h hr);
-      done = λ o p u ho hp hu. only-line (did fullest o p u) (Did o p u) (full-did o p u ho hp hu) (did-size o p u ho hp hu);
+      activated = λ i r h hr. only-line (activeRole fullest i r) (Active i r) (full-active i r h hr) (active-size i r (omega arith) (omega arith));
+      done = λ o p u ho hp hu. only-line (did fullest o p u) (Did o p u) (full-did o p u ho hp hu) (did-size o p u (omega arith) (omega arith) (omega arith));
     })
 
 word-small : (n i x : ℕ) {m : ℕ} → x < m → getD (replicate n x) i 0 < m
@@ -393,7 +306,7 @@ fullest-good =
     }
 
 -- under no rules it is a saved state, and a space that is shorter by a byte is too short for it
-pub state-least : (room : ℕ) → room < 997501 → copyReport (loadTexts [] (savedText fullest)) room ≡ refusedReport part.StateSpace 18 0
+pub state-least : (room : ℕ) → room < 997501 → copyReport (loadTexts [] (savedText fullest)) room ≡ refusedReport Text.StateSpace 18 997501
 unfolding copyReport savedReport
 state-least room h =
     let then : RulesThen [] [] [] = record { few = omega arith; accepted = unfold every in refl; reads = unfold listText in refl } in

@@ -7,6 +7,7 @@ use mathlib.Core.Bool.{true}
 use Prim.Native.Nat.{_+_, _≤_, _-_}
 use lib.ListN.{length, length-map}
 use Rattle.rules.specs.Acceptance.{every}
+use Rattle.rules.specs.Breach.{isKept}
 use Rattle.rules.proofs.Every.{everyFirst, every-next}
 use Rattle.enforcement.specs.States.{ruleHolds}
 use Rattle.steps.specs.declared.lowest.Lowest.the-variants.{BrokenAt}
@@ -16,10 +17,10 @@ use Rattle.state_text.proofs.judging.lowest_broken.Statement.{statement
 use Rattle.state_text.proofs.judging.lowest_broken.Tie as tie
 
 abbrev Inv-rules : tie.InvT-rules
-Inv-rules state list length i₀ i = (i ≤ length) × (everyFirst (λ rule. ruleHolds rule state) i (list .slots) ≡ true)
+Inv-rules list state length sessions time i₀ i = (i ≤ length) × (everyFirst (λ rule. ruleHolds rule state) i (list .slots) ≡ true)
 
 abbrev μ-rules : tie.MeasureT-rules
-μ-rules state list length i₀ i = length - i
+μ-rules list state length sessions time i₀ i = length - i
 
 -- The type fixes the number of slots, so each index below the length is one of a slot.
 slots-length : (c : tie.Start Inv-rules μ-rules) → length (c .args .t1 .slots) ≡ 128
@@ -35,11 +36,14 @@ mul-slot c = search needs
 element-copy-out-slot : tie.Need-element-copy-out-slot Inv-rules μ-rules
 element-copy-out-slot c = search needs
 
-holds-requires : tie.Need-holds-requires Inv-rules μ-rules
-holds-requires c κs = search needs
+test-requires : tie.Need-test-requires Inv-rules μ-rules
+test-requires c κs = search needs
 
-add-t15 : tie.Need-add-t15 Inv-rules μ-rules
-add-t15 c = search needs
+is-kept-requires : tie.Need-is-kept-requires Inv-rules μ-rules
+is-kept-requires c κs = search needs
+
+add-t24 : tie.Need-add-t24 Inv-rules μ-rules
+add-t24 c = search needs
 
 add-i : tie.Need-add-i Inv-rules μ-rules
 add-i c = search needs
@@ -48,25 +52,25 @@ rules-less : tie.Need-rules-less Inv-rules μ-rules
 rules-less c = search needs
 
 rules-again : tie.Need-rules-again Inv-rules μ-rules
-rules-again c = (
-  search needs,
-  every-next (λ rule. ruleHolds rule (c .before .before .before .before .before .args .state)) _ (c .before .before .before .before .rules .i) _ (omega (arith, slots-length (c .before .before .before .before .before)))
-      (c .before .before .before .before .rules .inv .1)
-      (sym (c .before .holds .ensures) ∙ not-false _ (c .if2 .left)),
-)
+rules-again c =
+    let start = c .before .before .before .before .before .before .before .before .before .before .before .before .before in
+    let at = c .before .before .before .before .before .before .before .before .before .before .before .rules in
+    let kept = sym (c .before .is-kept .ensures ∙ ap isKept (c .before .before .test .ensures)) ∙ not-false _ (c .if2 .left) in
+    (search needs, every-next (λ rule. ruleHolds rule (start .args .t2)) _ (at .i) _ (omega (arith, slots-length start)) (at .inv .1) kept)
 
 returns : tie.Need-returns Inv-rules μ-rules
 returns c =
-    let done : c .before .rules .i ≡ c .before .before .args .t1 .length = c .if1 .taken in
-    sym (every-unbroken (λ rule. ruleHolds rule (c .before .before .args .state)) 1 _ (rw done at (c .before .rules .inv .1)))
+    let start = c .before .before .before in
+    let done : c .before .rules .i ≡ start .args .t1 .length = c .if1 .taken in
+    sym (every-unbroken (λ rule. ruleHolds rule (start .args .t2)) 1 _ (rw done at (c .before .rules .inv .1)))
 
 returns-2 : tie.Need-returns-2 Inv-rules μ-rules
 returns-2 c =
-    let start = c .before .before .before .before .before in
-    let i = c .before .before .before .before .rules .i in
-    let e : 1 + i ≡ i + 1 = omega arith in
-    sym (lowest-stop (λ rule. ruleHolds rule (start .args .state)) (start .args .t1 .slots) 1 (start .args .t1 .length) i _ (search needs) (omega (arith, slots-length start))
-    (c .before .before .before .before .rules .inv .1) (sym (c .before .holds .ensures) ∙ not-true _ (c .if2 .taken)) ∙ ap BrokenAt e)
+    let start = c .before .before .before .before .before .before .before .before .before .before .before .before .before in
+    let at = c .before .before .before .before .before .before .before .before .before .before .before .rules in
+    let e : 1 + at .i ≡ at .i + 1 = omega arith in
+    let broken = sym (c .before .is-kept .ensures ∙ ap isKept (c .before .before .test .ensures)) ∙ not-true _ (c .if2 .taken) in
+    sym (lowest-stop (λ rule. ruleHolds rule (start .args .t2)) (start .args .t1 .slots) 1 (start .args .t1 .length) (at .i) _ (search needs) (omega (arith, slots-length start)) (at .inv .1) broken ∙ ap BrokenAt e)
 
 pub lowest-broken-spec : {M : Type 1} → statement M
 lowest-broken-spec =
@@ -77,8 +81,9 @@ lowest-broken-spec =
     rules-holds
     mul-slot
     element-copy-out-slot
-    holds-requires
-    add-t15
+    test-requires
+    is-kept-requires
+    add-t24
     add-i
     rules-less
     rules-again

@@ -1,8 +1,13 @@
 -- `state_text::reading::read_lines` meets its contract. The loop's invariant: what is left to be read, from the state and the line that it is at.
 -- Assumes nothing.
+use mathlib.Core.Path.{_≡_, refl, _∙_}
 use native.Mathlib.Omega.{arith}
+use Prim.Native.Nat.{_<_}
 use lib.ListN.{length}
-use Rattle.state_text.proofs.Loads.{Unread, none, start, bad-line, ranged, small, within, less, turn, end}
+use Rattle.state_text.specs.Entries.{rank, rests}
+use Rattle.state_text.specs.Parts.{lineNumber}
+use Rattle.state_text.proofs.Fields.{session-below, rejoined}
+use Rattle.state_text.proofs.Loads.{Unread, Line, none, start, bad-line, good-line, end}
 use borrow.Author.Needs.{needs}
 use Rattle.state_text.proofs.reading.read_lines.Statement.{statement}
 use Rattle.state_text.proofs.reading.read_lines.Tie as tie
@@ -12,6 +17,22 @@ Inv-loop text state₀ rest₀ line₀ next₀ state rest line next = Unread tex
 
 abbrev μ-loop : tie.MeasureT-loop
 μ-loop text state₀ rest₀ line₀ next₀ state rest line next = length rest
+
+-- the line that was read
+line-at : (c : tie.After-known-told Inv-loop μ-loop) → Line (c .before .before .before .before .before .before .before .before .before .args .text .now) (c .before .before .before .before .before .loop .state) (c .before .before .before .before .before .loop .rest .now) (c .before .before .before .before .before .loop .line) (c .before .before .before .before .before .loop .next) (c .before .answer .given .0 .0)
+line-at c = good-line _ (c .before .before .before .before .before .loop .state) (c .before .before .before .before .before .loop .rest .now) (c .before .before .before .before .before .loop .line) (c .before .before .before .before .before .loop .next) (c .before .before .before .before .before .loop .inv) (omega arith) (c .before .before .before .scan-line .result) (c .before .before .before .scan-line .ensures) (c .before .answer .given .0 .0) (c .before .answer .given .1)
+
+-- a line more can be counted
+line-short : (c : tie.After-known-told Inv-loop μ-loop) → c .before .before .before .before .before .loop .line < 18446744073709551615
+line-short c = omega (arith, c .before .before .before .before .before .loop .inv .lines)
+
+-- its session
+session-at : (c : tie.After-session Inv-loop μ-loop) → c .session .result < 32
+session-at c = omega (arith, c .session .ensures, session-below (c .before .before .answer .given .0 .0 .entry) (line-at (c .before) .ranged))
+
+-- its number
+told-at : (c : tie.After-check-line Inv-loop μ-loop) → c .check-line .result ≡ lineNumber (c .before .before .before .before .before .before .before .before .before .before .before .loop .next) (rank (c .before .before .before .before .before .before .before .answer .given .0 .0 .entry)) (rests (c .before .before .before .before .before .before .before .before .before .before .before .loop .state) (c .before .before .before .before .before .before .before .answer .given .0 .0 .entry))
+told-at c = c .check-line .ensures (c .before .before .before .before .before .before .before .before .before .before .before .loop .state) (rw (c .before .before .before .before .before .session .ensures)) refl ∙ rw (c .before .before .before .rank .ensures)
 
 refused-requires : tie.Need-refused-requires Inv-loop μ-loop
 refused-requires c κs = search needs
@@ -25,8 +46,8 @@ fresh-requires c κs = search needs
 loop-holds : tie.Need-loop-holds Inv-loop μ-loop
 loop-holds c = start _ _ (omega arith) (c .fresh .ensures)
 
-read-line-requires : tie.Need-read-line-requires Inv-loop μ-loop
-read-line-requires c κs = search needs
+scan-line-requires : tie.Need-scan-line-requires Inv-loop μ-loop
+scan-line-requires c κs = search needs
 
 enum-known-answer : tie.Need-enum-known-answer Inv-loop μ-loop
 enum-known-answer c = search needs
@@ -41,37 +62,83 @@ refused-requires-2 : tie.Need-refused-requires-2 Inv-loop μ-loop
 refused-requires-2 c κs = search needs
 
 returns-2 : tie.Need-returns-2 Inv-loop μ-loop
-returns-2 c = bad-line _ (c .before .before .before .before .before .before .loop .state) (c .before .before .before .before .before .before .loop .rest .now) (c .before .before .before .before .before .before .loop .line) (c .before .before .before .before .before .before .loop .next) (c .before .before .before .before .before .before .loop .inv) (omega arith) (c .before .before .before .before .read-line .result) (c .before .before .before .before .read-line .ensures) (c .before .before .enum-told .given .0 .0) (c .before .before .enum-told .given .1) (c .before .number-in .result) (c .before .number-in .ensures) (c .refused2 .result) (c .refused2 .ensures)
+returns-2 c = bad-line _ (c .before .before .before .before .before .before .loop .state) (c .before .before .before .before .before .before .loop .rest .now) (c .before .before .before .before .before .before .loop .line) (c .before .before .before .before .before .before .loop .next) (c .before .before .before .before .before .before .loop .inv) (omega arith) (c .before .before .before .before .scan-line .result) (c .before .before .before .before .scan-line .ensures) (c .before .before .enum-told .given .0 .0) (c .before .before .enum-told .given .1) (c .before .number-in .result) (c .before .number-in .ensures) (c .refused2 .result) (c .refused2 .ensures)
+
+session-requires : tie.Need-session-requires Inv-loop μ-loop
+session-requires c κs = search needs
+
+mul-session : tie.Need-mul-session Inv-loop μ-loop
+mul-session c = omega (arith, session-at c)
+
+element-copy-out-session : tie.Need-element-copy-out-session Inv-loop μ-loop
+element-copy-out-session c = omega (arith, session-at c)
 
 rank-requires : tie.Need-rank-requires Inv-loop μ-loop
-rank-requires c κs = ranged _ (c .before .before .before .before .before .loop .state) (c .before .before .before .before .before .loop .rest .now) (c .before .before .before .before .before .loop .line) (c .before .before .before .before .before .loop .next) (c .before .before .before .before .before .loop .inv) (omega arith) (c .before .before .before .read-line .result) (c .before .before .before .read-line .ensures) (c .before .answer .given .0 .0) (c .before .answer .given .1)
+rank-requires c κs = (line-at (c .before .before)) .ranged
 
-add-next : tie.Need-add-next Inv-loop μ-loop
-add-next c = omega (arith, small _ (c .before .before .before .before .before .before .loop .state) (c .before .before .before .before .before .before .loop .rest .now) (c .before .before .before .before .before .before .loop .line) (c .before .before .before .before .before .before .loop .next) (c .before .before .before .before .before .before .loop .inv) (omega arith) (c .before .before .before .before .read-line .result) (c .before .before .before .before .read-line .ensures) (c .before .before .answer .given .0 .0) (c .before .before .answer .given .1), c .rank .ensures)
+check-line-requires : tie.Need-check-line-requires Inv-loop μ-loop
+check-line-requires c κs = ((line-at (c .before .before .before .before .before)) .ranged, c .before .before .before .before .before .before .before .before .before .before .loop .inv .users)
 
-with-line-requires : tie.Need-with-line-requires Inv-loop μ-loop
-with-line-requires c κs = ranged _ (c .before .before .before .before .before .before .loop .state) (c .before .before .before .before .before .before .loop .rest .now) (c .before .before .before .before .before .before .loop .line) (c .before .before .before .before .before .before .loop .next) (c .before .before .before .before .before .before .loop .inv) (omega arith) (c .before .before .before .before .read-line .result) (c .before .before .before .before .read-line .ensures) (c .before .before .answer .given .0 .0) (c .before .before .answer .given .1)
-
-sub-rest : tie.Need-sub-rest Inv-loop μ-loop
-sub-rest c = omega (arith, within _ (c .before .before .before .before .before .before .before .loop .state) (c .before .before .before .before .before .before .before .loop .rest .now) (c .before .before .before .before .before .before .before .loop .line) (c .before .before .before .before .before .before .before .loop .next) (c .before .before .before .before .before .before .before .loop .inv) (omega arith) (c .before .before .before .before .before .read-line .result) (c .before .before .before .before .before .read-line .ensures) (c .before .before .before .answer .given .0 .0) (c .before .before .before .answer .given .1))
-
-part-rest-start : tie.Need-part-rest-start Inv-loop μ-loop
-part-rest-start c = omega (arith, within _ (c .before .before .before .before .before .before .before .loop .state) (c .before .before .before .before .before .before .before .loop .rest .now) (c .before .before .before .before .before .before .before .loop .line) (c .before .before .before .before .before .before .before .loop .next) (c .before .before .before .before .before .before .before .loop .inv) (omega arith) (c .before .before .before .before .before .read-line .result) (c .before .before .before .before .before .read-line .ensures) (c .before .before .before .answer .given .0 .0) (c .before .before .before .answer .given .1))
-
-part-rest-end : tie.Need-part-rest-end Inv-loop μ-loop
-part-rest-end c = omega (arith, within _ (c .before .before .before .before .before .before .before .loop .state) (c .before .before .before .before .before .before .before .loop .rest .now) (c .before .before .before .before .before .before .before .loop .line) (c .before .before .before .before .before .before .before .loop .next) (c .before .before .before .before .before .before .before .loop .inv) (omega arith) (c .before .before .before .before .before .read-line .result) (c .before .before .before .before .before .read-line .ensures) (c .before .before .before .answer .given .0 .0) (c .before .before .before .answer .given .1))
-
-add-line : tie.Need-add-line Inv-loop μ-loop
-add-line c = omega (arith, c .before .before .before .before .before .before .before .before .loop .inv .lines)
-
-loop-less : tie.Need-loop-less Inv-loop μ-loop
-loop-less c = less _ (c .before .before .before .before .before .before .before .before .loop .state) (c .before .before .before .before .before .before .before .before .loop .rest .now) (c .before .before .before .before .before .before .before .before .loop .line) (c .before .before .before .before .before .before .before .before .loop .next) (c .before .before .before .before .before .before .before .before .loop .inv) (omega arith) (c .before .before .before .before .before .before .read-line .result) (c .before .before .before .before .before .before .read-line .ensures) (c .before .before .before .before .answer .given .0 .0) (c .before .before .before .before .answer .given .1)
-
-loop-again : tie.Need-loop-again Inv-loop μ-loop
-loop-again c = turn _ (c .before .before .before .before .before .before .before .before .loop .state) (c .before .before .before .before .before .before .before .before .loop .rest .now) (c .before .before .before .before .before .before .before .before .loop .line) (c .before .before .before .before .before .before .before .before .loop .next) (c .before .before .before .before .before .before .before .before .loop .inv) (omega arith) (c .before .before .before .before .before .before .read-line .result) (c .before .before .before .before .before .before .read-line .ensures) (c .before .before .before .before .answer .given .0 .0) (c .before .before .before .before .answer .given .1) (c .before .before .rank .result) (c .before .before .rank .ensures) (c .before .with-line .result) (c .before .with-line .ensures)
+refused-requires-3 : tie.Need-refused-requires-3 Inv-loop μ-loop
+refused-requires-3 c κs = search needs
 
 returns-3 : tie.Need-returns-3 Inv-loop μ-loop
-returns-3 c = end _ (c .before .loop .state) _ _ _ (c .before .loop .inv) (omega arith)
+returns-3 c = (line-at (c .before .before .before .before .before .before .before .before)) .bad (told-at (c .before .before)) (c .before .if2 .taken) (c .refused3 .result) (c .refused3 .ensures)
+
+time-after-requires : tie.Need-time-after-requires Inv-loop μ-loop
+time-after-requires c κs = search needs
+
+put-assigned-requires : tie.Need-put-assigned-requires Inv-loop μ-loop
+put-assigned-requires c κs = (line-at (c .before .before .before .before .before .before .before .before .before)) .ranged
+
+put-granted-requires : tie.Need-put-granted-requires Inv-loop μ-loop
+put-granted-requires c κs = (line-at (c .before .before .before .before .before .before .before .before .before .before .before)) .ranged
+
+session-after-requires : tie.Need-session-after-requires Inv-loop μ-loop
+session-after-requires c κs = (line-at (c .before .before .before .before .before .before .before .before .before .before .before .before)) .ranged
+
+mul-t17 : tie.Need-mul-t17 Inv-loop μ-loop
+mul-t17 c = omega (arith, session-at (c .before .before .before .before .before .before .before .before .before .before .before .before))
+
+element-set-from-state : tie.Need-element-set-from-state Inv-loop μ-loop
+element-set-from-state c = omega (arith, session-at (c .before .before .before .before .before .before .before .before .before .before .before .before))
+
+put-active-requires : tie.Need-put-active-requires Inv-loop μ-loop
+put-active-requires c κs = (line-at (c .before .before .before .before .before .before .before .before .before .before .before .before .before .before)) .ranged
+
+put-did-requires : tie.Need-put-did-requires Inv-loop μ-loop
+put-did-requires c κs = (line-at (c .before .before .before .before .before .before .before .before .before .before .before .before .before .before .before .before)) .ranged
+
+add-next : tie.Need-add-next Inv-loop μ-loop
+add-next c = omega (arith, (line-at (c .before .before .before .before .before .before .before .before .before .before .before .before .before .before .before .before .before)) .small, c .before .before .before .before .before .before .before .before .before .before .before .before .before .before .rank .ensures)
+
+sub-rest : tie.Need-sub-rest Inv-loop μ-loop
+sub-rest c = omega (arith, (line-at (c .before .before .before .before .before .before .before .before .before .before .before .before .before .before .before .before .before)) .within)
+
+part-rest-start : tie.Need-part-rest-start Inv-loop μ-loop
+part-rest-start c = omega (arith, (line-at (c .before .before .before .before .before .before .before .before .before .before .before .before .before .before .before .before .before)) .within)
+
+part-rest-end : tie.Need-part-rest-end Inv-loop μ-loop
+part-rest-end c = omega (arith, (line-at (c .before .before .before .before .before .before .before .before .before .before .before .before .before .before .before .before .before)) .within)
+
+add-line : tie.Need-add-line Inv-loop μ-loop
+add-line c = omega (arith, line-short (c .before .before .before .before .before .before .before .before .before .before .before .before .before .before .before .before .before .before))
+
+loop-less : tie.Need-loop-less Inv-loop μ-loop
+loop-less c = (line-at (c .before .before .before .before .before .before .before .before .before .before .before .before .before .before .before .before .before .before)) .less
+
+loop-again : tie.Need-loop-again Inv-loop μ-loop
+loop-again c =
+    let state = c .before .before .before .before .before .before .before .before .before .before .before .before .before .before .before .before .before .before .before .before .before .before .before .loop .state in
+    let entry = c .before .before .before .before .before .before .before .before .before .before .before .before .before .before .before .before .before .before .before .answer .given .0 .0 .entry in
+    let none : c .before .before .before .before .before .before .before .before .before .before .before .before .check-line .result ≡ 0 = omega (arith, c .before .before .before .before .before .before .before .before .before .before .before .if2 .left) in
+    line-at (c .before .before .before .before .before .before .before .before .before .before .before .before .before .before .before .before .before .before) .turn (told-at (c .before .before .before .before .before .before .before .before .before .before .before .before)) none _ _
+    (rejoined state entry (c .before .before .before .before .before .before .before .before .before .before .time-after .ensures state refl) (c .before .before .before .before .before .before .before .before .put-assigned .ensures state refl) (c .before .before .before .before .before .before .put-granted .ensures state refl)
+    (rw (c .before .before .before .before .before .before .before .before .before .before .before .before .before .before .before .before .before .session .ensures) (c .before .before .before .before .before .session-after .ensures state (rw (c .before .before .before .before .before .before .before .before .before .before .before .before .before .before .before .before .before .session .ensures)))) (c .before .before .before .put-active .ensures state refl) (c .before .put-did .ensures state refl))
+    (c .before .before .before .before .before .before .before .before .before .before .before .before .before .before .before .rank .ensures)
+
+returns-4 : tie.Need-returns-4 Inv-loop μ-loop
+returns-4 c = end _ (c .before .loop .state) _ _ _ (c .before .loop .inv) (omega arith)
 
 pub read-lines-spec : {M : Type 1} → statement M
 read-lines-spec =
@@ -83,19 +150,32 @@ read-lines-spec =
     returns
     fresh-requires
     loop-holds
-    read-line-requires
+    scan-line-requires
     enum-known-answer
     enum-told
     number-in-requires
     refused-requires-2
     returns-2
+    session-requires
+    mul-session
+    element-copy-out-session
     rank-requires
+    check-line-requires
+    refused-requires-3
+    returns-3
+    time-after-requires
+    put-assigned-requires
+    put-granted-requires
+    session-after-requires
+    mul-t17
+    element-set-from-state
+    put-active-requires
+    put-did-requires
     add-next
-    with-line-requires
     sub-rest
     part-rest-start
     part-rest-end
     add-line
     loop-less
     loop-again
-    returns-3)
+    returns-4)

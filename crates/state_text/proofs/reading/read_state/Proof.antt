@@ -24,7 +24,7 @@ returns-2 : tie.Need-returns-2
 returns-2 c = lines-bad _ _ (sym (c .before .before .before .before .is-accepted .ensures) ∙ not-false _ (c .before .before .before .if1 .left)) _ (c .before .before .read-lines .ensures) (c .if2 .taken)
 
 lowest-broken-requires : tie.Need-lowest-broken-requires
-lowest-broken-requires c κs = accepted-length _ (sym (c .before .before .before .before .before .is-accepted .ensures) ∙ not-false _ (c .before .before .before .before .if1 .left))
+lowest-broken-requires c κs = accepted-length _ (sym (c .before .before .before .before .is-accepted .ensures) ∙ not-false _ (c .before .before .before .if1 .left))
 
 enum-known-lowest : tie.Need-enum-known-lowest
 enum-known-lowest c = search needs
@@ -33,13 +33,13 @@ enum-told : tie.Need-enum-told
 enum-told c = search needs
 
 returns-3 : tie.Need-returns-3
-returns-3 c = none-broken _ _ (sym (c .before .before .before .before .before .before .before .before .is-accepted .ensures) ∙ not-false _ (c .before .before .before .before .before .before .before .if1 .left)) _ (c .before .before .before .before .before .before .read-lines .ensures) (c .before .before .before .before .if2 .left) _ (c .before .before .lowest-broken .ensures) (c .enum-told .given .1)
+returns-3 c = none-broken _ _ (sym (c .before .before .before .before .before .before .before .is-accepted .ensures) ∙ not-false _ (c .before .before .before .before .before .before .if1 .left)) _ (c .before .before .before .before .before .read-lines .ensures) (c .before .before .before .if2 .left) _ (c .before .before .lowest-broken .ensures) (c .enum-told .given .1)
 
 refused-requires-2 : tie.Need-refused-requires-2
 refused-requires-2 c κs = search needs
 
 returns-4 : tie.Need-returns-4
-returns-4 c = c .refused2 .ensures ∙ one-broken _ _ (sym (c .before .before .before .before .before .before .before .before .before .before .is-accepted .ensures) ∙ not-false _ (c .before .before .before .before .before .before .before .before .before .if1 .left)) _ (c .before .before .before .before .before .before .before .before .read-lines .ensures) (c .before .before .before .before .before .before .if2 .left) _ (c .before .before .before .before .lowest-broken .ensures) _ (c .before .before .lowest .given .1)
+returns-4 c = c .refused2 .ensures ∙ one-broken _ _ (sym (c .before .before .before .before .before .before .before .before .before .is-accepted .ensures) ∙ not-false _ (c .before .before .before .before .before .before .before .before .if1 .left)) _ (c .before .before .before .before .before .before .before .read-lines .ensures) (c .before .before .before .before .before .if2 .left) _ (c .before .before .before .before .lowest-broken .ensures) _ (c .before .before .lowest .given .1)
 
 pub read-state-spec : {M : Type 1} → statement M
 read-state-spec =

@@ -8,23 +8,17 @@ use borrow.Author.Needs.{needs}
 use Rattle.state_text.proofs.writing.write_lines.Statement.{statement}
 use Rattle.state_text.proofs.writing.write_lines.Tie as tie
 
-assigned-length : (c : tie.Start) → length (c .args .state .assigned) ≡ 64
+assigned-length : (c : tie.Start) → length (c .args .t1 .assigned) ≡ 64
 assigned-length c = search needs
 
-granted-length : (c : tie.Start) → length (c .args .state .granted) ≡ 32
+granted-length : (c : tie.Start) → length (c .args .t1 .granted) ≡ 32
 granted-length c = search needs
 
 write-line-requires : tie.Need-write-line-requires
 write-line-requires c κs = search needs
 
-slice-aggregate-write-rows : tie.Need-slice-aggregate-write-rows
-slice-aggregate-write-rows c = search needs
-
 write-rows-requires : tie.Need-write-rows-requires
 write-rows-requires c κs = search needs
-
-slice-aggregate-write-rows-2 : tie.Need-slice-aggregate-write-rows-2
-slice-aggregate-write-rows-2 c = search needs
 
 write-rows-requires-2 : tie.Need-write-rows-requires-2
 write-rows-requires-2 c κs = search needs
@@ -40,17 +34,15 @@ same-length c = search needs
 
 returns : tie.Need-returns
 returns c =
-    let begin = c .before .before .before .before .before .before .before .before .before .before .before .before .before .before .before .before .before .before .before .before .before .before .before .before .before .before .before in
-    state-parts (begin .args .state) (assigned-length begin) (granted-length begin) (omega arith) (c .before .before .before .before .before .before .before .before .before .before .before .before .before .before .before .before .before .before .before .before .before .before .before .before .write-line .ensures) (c .before .before .before .before .before .before .before .before .before .before .before .before .before .before .before .before .before .before .write-rows .ensures) (c .before .before .before .before .before .before .before .before .before .before .before .before .write-rows2 .ensures) (c .before .before .before .before .before .before .before .before .write-sessions .ensures) (c .before .before .write-history .ensures)
+    let begin = c .before .before .before .before .before .before .before .before .before .before .before .before .before .before .before .before .before .before .before .before .before .before .before .before .before .before .before .before .before .before .before .before in
+    state-parts (begin .args .t1) (assigned-length begin) (granted-length begin) (omega arith) (c .before .before .before .before .before .before .before .before .before .before .before .before .before .before .before .before .before .before .before .before .before .before .before .before .before .before .before .before .before .write-line .ensures) (c .before .before .before .before .before .before .before .before .before .before .before .before .before .before .before .before .before .before .before .before .before .before .write-rows .ensures) (c .before .before .before .before .before .before .before .before .before .before .before .before .before .before .before .write-rows2 .ensures) (c .before .before .before .before .before .before .before .before .write-sessions .ensures) (c .before .before .write-history .ensures)
 
 pub write-lines-spec : {M : Type 1} → statement M
 write-lines-spec =
     tie.close
     (tie.spec
     write-line-requires
-    slice-aggregate-write-rows
     write-rows-requires
-    slice-aggregate-write-rows-2
     write-rows-requires-2
     write-sessions-requires
     write-history-requires

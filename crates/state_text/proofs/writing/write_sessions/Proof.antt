@@ -2,17 +2,17 @@
 -- Assumes nothing.
 use Prim.Native.Nat.{_≤_, _-_}
 use native.Mathlib.Omega.{arith}
-use Rattle.state_text.specs.Saving.{sessionLines}
+use Rattle.state_text.specs.Parts.{sessionPartsAt}
 use Rattle.state_text.proofs.Writes.{Loop, start, same, end, session-turn}
 use borrow.Author.Needs.{needs}
 use Rattle.state_text.proofs.writing.write_sessions.Statement.{statement}
 use Rattle.state_text.proofs.writing.write_sessions.Tie as tie
 
 abbrev Inv-loop : tie.InvT-loop
-Inv-loop out₀ at state place₀ i₀ out place i = Loop (sessionLines state) out₀ at out place i × (i ≤ 32)
+Inv-loop active out₀ at sessions place₀ i₀ out place i = Loop (sessionPartsAt sessions active) out₀ at out place i × (i ≤ 32)
 
 abbrev μ-loop : tie.MeasureT-loop
-μ-loop out₀ at state place₀ i₀ out place i = 32 - i
+μ-loop active out₀ at sessions place₀ i₀ out place i = 32 - i
 
 loop-holds : tie.Need-loop-holds Inv-loop μ-loop
 loop-holds c = (start _ _ _ (omega arith) (omega arith), omega arith)
@@ -20,14 +20,14 @@ loop-holds c = (start _ _ _ (omega arith) (omega arith), omega arith)
 mul-session : tie.Need-mul-session Inv-loop μ-loop
 mul-session c = search needs
 
-element-copy-out-session : tie.Need-element-copy-out-session Inv-loop μ-loop
-element-copy-out-session c = search needs
+array-copy-out-session : tie.Need-array-copy-out-session Inv-loop μ-loop
+array-copy-out-session c = search needs
 
-mul-roles : tie.Need-mul-roles Inv-loop μ-loop
-mul-roles c = search needs
+mul-write-session : tie.Need-mul-write-session Inv-loop μ-loop
+mul-write-session c = search needs
 
-element-copy-out-roles : tie.Need-element-copy-out-roles Inv-loop μ-loop
-element-copy-out-roles c = search needs
+element-copy-out-write-session : tie.Need-element-copy-out-write-session Inv-loop μ-loop
+element-copy-out-write-session c = search needs
 
 write-session-requires : tie.Need-write-session-requires Inv-loop μ-loop
 write-session-requires c κs = search needs
@@ -39,7 +39,7 @@ loop-less : tie.Need-loop-less Inv-loop μ-loop
 loop-less c = omega arith
 
 loop-again : tie.Need-loop-again Inv-loop μ-loop
-loop-again c = (session-turn _ (c .before .before .before .before .before .before .before .loop .inv .0) (c .before .before .write-session .ensures), omega arith)
+loop-again c = (session-turn _ _ (c .before .before .before .before .before .before .before .loop .inv .0) (c .before .before .write-session .ensures), omega arith)
 
 same-length : tie.Need-same-length Inv-loop μ-loop
 same-length c = same (c .before .loop .inv .0)
@@ -55,9 +55,9 @@ write-sessions-spec =
     μ-loop
     loop-holds
     mul-session
-    element-copy-out-session
-    mul-roles
-    element-copy-out-roles
+    array-copy-out-session
+    mul-write-session
+    element-copy-out-write-session
     write-session-requires
     add-i
     loop-less
