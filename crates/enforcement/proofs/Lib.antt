@@ -22,3 +22,4 @@ pub mod Answering
 pub mod AnswerFits
 pub mod Running
 pub mod Typing
+pub mod Batching

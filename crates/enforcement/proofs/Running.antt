@@ -2,7 +2,7 @@
 -- Assumes nothing.
 use mathlib.Core.Path.{_≡_, refl, sym, _∙_, ap, ap₂, subst}
 use mathlib.Core.Bool.{Bool, true, false, not, cond, _&&_}
-use mathlib.Core.List.{List, [], _∷_, _++_}
+use mathlib.Core.List.{List, [], _∷_, _++_, map}
 use mathlib.Core.Logic.{_⊎_, inl, inr}
 use Prim.Native.Nat.{ℕ, zero, suc, _+_, _≤_, _<_}
 use native.Mathlib.Nat.{le-of-suc-le-suc, not-suc-le-zero}
@@ -70,9 +70,12 @@ noStep = record { kind = 0; first = 0; second = 0; third = 0; x = pos 0; y = pos
 abbrev pub stateAt : RuleList → State → List Step → ℕ → State
 stateAt list s steps i = lastState s (runOf list s (take i steps))
 
--- the entries after i steps: i answers, and the others as they were
+-- the list for the answers after i steps: i values of what the steps hand back, and the others as they were
+abbrev pub valuesAt : {A : Type 0} → (Next → A) → RuleList → State → List Step → List A → ℕ → List A
+valuesAt value list s steps values i = map value (runOf list s (take i steps)) ++ drop i values
+
 abbrev pub entriesAt : RuleList → State → List Step → List ℕ → ℕ → List ℕ
-entriesAt list s steps entries i = entriesOf (runOf list s (take i steps)) ++ drop i entries
+entriesAt = valuesAt (λ next. wordOf (next .answer))
 
 module _ (list : RuleList) where
   state-suc : (s : State) (steps : List Step) (i : ℕ) → i < length steps → stateAt list s steps (suc i) ≡ stepOf list (stateAt list s steps i) (getD steps i noStep) .state
@@ -81,16 +84,16 @@ module _ (list : RuleList) where
   state-suc s (step ∷ steps) zero h = refl
   state-suc s (step ∷ steps) (suc i) h = state-suc (stepOf list s step .state) steps i (le-of-suc-le-suc h)
 
-  entries-suc : (s : State) (steps : List Step) (entries : List ℕ) (i : ℕ) → i < length steps → length steps ≤ length entries
-      → entriesAt list s steps entries (suc i) ≡ set (entriesAt list s steps entries i) i (wordOf (stepOf list (stateAt list s steps i) (getD steps i noStep) .answer))
+  values-suc : {A : Type 0} (value : Next → A) (s : State) (steps : List Step) (values : List A) (i : ℕ) → i < length steps → length steps ≤ length values
+      → valuesAt value list s steps values (suc i) ≡ set (valuesAt value list s steps values i) i (value (stepOf list (stateAt list s steps i) (getD steps i noStep)))
   unfolding runOf lastState
-  entries-suc s [] entries i h room = absurd (not-suc-le-zero h)
-  entries-suc s (step ∷ steps) [] i h room = absurd (not-suc-le-zero room)
-  entries-suc s (step ∷ steps) (entry ∷ entries) zero h room = refl
-  entries-suc s (step ∷ steps) (entry ∷ entries) (suc i) h room =
-      ap (λ (words : List ℕ). wordOf (stepOf list s step .answer) ∷ words) (entries-suc (stepOf list s step .state) steps entries i (le-of-suc-le-suc h) (le-of-suc-le-suc room))
+  values-suc value s [] values i h room = absurd (not-suc-le-zero h)
+  values-suc value s (step ∷ steps) [] i h room = absurd (not-suc-le-zero room)
+  values-suc value s (step ∷ steps) (old ∷ values) zero h room = refl
+  values-suc {A} value s (step ∷ steps) (old ∷ values) (suc i) h room =
+      ap (λ (rest : List A). value (stepOf list s step) ∷ rest) (values-suc value (stepOf list s step .state) steps values i (le-of-suc-le-suc h) (le-of-suc-le-suc room))
 
-  accepted-at : (s : State) (steps : List Step) (i : ℕ) → Accepted s → Accepted (stateAt list s steps i)
+  pub accepted-at : (s : State) (steps : List Step) (i : ℕ) → Accepted s → Accepted (stateAt list s steps i)
   unfolding runOf lastState
   accepted-at s [] zero accepted = accepted
   accepted-at s [] (suc i) accepted = accepted
@@ -135,11 +138,16 @@ module _ (list : RuleList) (s : State) (steps : List Step) (entries : List ℕ) 
   next-state i x r h e t =
       ap (λ (next : Next). next .state) (t ∙ ap (λ (y : State). stepOf list y (getD steps i noStep)) e) ∙ sym (state-suc list s steps i h) ∙ sym (ap (stateAt list s steps) (add-one i))
 
+  pub next-values : {A : Type 0} (value : Next → A) (values : List A) (i : ℕ) (x : State) (ys : List A) (r : Next) → i < n → n ≤ length values → x ≡ stateAt list s steps i → ys ≡ valuesAt value list s steps values i → r ≡ stepOf list x (getD steps i noStep)
+      → set ys i (value r) ≡ valuesAt value list s steps values (i + 1)
+  next-values {A} value values i x ys r h room e e′ t =
+      ap₂ (λ (zs : List A) (y : A). set zs i y) e′ (ap value (t ∙ ap (λ (y : State). stepOf list y (getD steps i noStep)) e))
+      ∙ sym (values-suc list value s steps values i h room) ∙ sym (ap (valuesAt value list s steps values) (add-one i))
+
   pub next-entries : (i : ℕ) (x : State) (ys : List ℕ) (r : Next) (word : ℕ) → i < n → n ≤ m → x ≡ stateAt list s steps i → ys ≡ entriesAt list s steps entries i → r ≡ stepOf list x (getD steps i noStep) → word ≡ wordOf (r .answer)
       → set ys i word ≡ entriesAt list s steps entries (i + 1)
   next-entries i x ys r word h room e e′ t w =
-      ap₂ (λ (zs : List ℕ) (k : ℕ). set zs i k) e′ (w ∙ ap (λ (next : Next). wordOf (next .answer)) (t ∙ ap (λ (y : State). stepOf list y (getD steps i noStep)) e))
-      ∙ sym (entries-suc list s steps entries i h room) ∙ sym (ap (entriesAt list s steps entries) (add-one i))
+      ap (set ys i) w ∙ next-values (λ next. wordOf (next .answer)) entries i x ys r h room e e′ t
 
   -- none done
   pub state-none : stateAt list s steps 0 ≡ s

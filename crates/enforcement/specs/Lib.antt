@@ -10,3 +10,4 @@ pub mod Narrow
 pub mod Causes
 pub mod Deciding
 pub mod Runs
+pub mod Batches

@@ -1,5 +1,6 @@
 // The gate of document 01, 'State and steps': the state, the steps, and what a step answers.
 mod acceptance;
+pub mod batches;
 mod configurations;
 mod events;
 mod methods;
@@ -7,6 +8,9 @@ mod requests;
 mod runs;
 pub mod states;
 
+pub use batches::Batch;
+pub use batches::BatchRun;
+pub use batches::Entry;
 pub use rules::Session;
 pub use runs::Ran;
 pub use runs::run;

@@ -80,49 +80,48 @@ module _ (selected : Rule → Bool) (v : View) (slots : List Slot) where
   unfolding judgedOf lowest selectedNumber
   judged-none = refl
 
-  pub judged-more : (n : ℕ) (filler : Slot) → n < length slots →
-      let rule = ruleOf (getD slots n filler) in
-      visited (selected rule) (holds rule v) (judgedOf selected v (firstRules n slots)) (n + 1) ≡ judgedOf selected v (firstRules (n + 1) slots)
-  unfolding judgedOf visited
-  judged-more n filler l =
-      by-selected (selected (ruleOf (getD slots n filler)))
-      (lowest-more (λ rule. not (selected rule) || holds rule v) slots 1 n filler l) (number-more selected slots n filler l)
-    where
-      by-selected : (b : Bool) →
-          lowest (λ rule. not (selected rule) || holds rule v) 1 (firstRules (suc n) slots) ≡ orNext (lowest (λ rule. not (selected rule) || holds rule v) 1 (firstRules n slots)) (not b || holds (ruleOf (getD slots n filler)) v) (1 + n) →
-          selectedNumber selected (firstRules (suc n) slots) ≡ selectedNumber selected (firstRules n slots) + oneIf b →
-          visited b (holds (ruleOf (getD slots n filler)) v) (judgedOf selected v (firstRules n slots)) (n + 1) ≡ judgedOf selected v (firstRules (n + 1) slots)
-      by-selected true low number =
-          ap₂ judgement
-          (ap (orNext (lowest (λ rule. not (selected rule) || holds rule v) 1 (firstRules n slots)) (holds (ruleOf (getD slots n filler)) v)) (add-comm n 1) ∙ sym low)
-          (sym number)
-          ∙ ap (λ (k : ℕ). judgedOf selected v (firstRules k slots)) (sym (add-one n))
-      by-selected false low number =
-          ap₂ judgement (sym (low ∙ unless (lowest (λ rule. not (selected rule) || holds rule v) 1 (firstRules n slots)) (1 + n))) (sym (number ∙ add-zero (selectedNumber selected (firstRules n slots))))
-          ∙ ap (λ (k : ℕ). judgedOf selected v (firstRules k slots)) (sym (add-one n))
+  module _ (n : ℕ) (filler : Slot) (below : n < length slots) where
+    judged-next : (b : Bool) → selected (ruleOf (getD slots n filler)) ≡ b →
+        judgement (orNext (lowest (λ rule. not (selected rule) || holds rule v) 1 (firstRules n slots)) (not b || holds (ruleOf (getD slots n filler)) v) (1 + n)) (selectedNumber selected (firstRules n slots) + oneIf b)
+        ≡ judgedOf selected v (firstRules (n + 1) slots)
+    unfolding judgedOf
+    judged-next b e =
+        ap₂ judgement
+        (rw (← e) (sym (lowest-more (λ rule. not (selected rule) || holds rule v) slots 1 n filler below)))
+        (rw (← e) (sym (number-more selected slots n filler below)))
+        ∙ ap (λ (k : ℕ). judgedOf selected v (firstRules k slots)) (sym (add-one n))
+
+    pub judged-selected : selected (ruleOf (getD slots n filler)) ≡ true
+        → visited (holds (ruleOf (getD slots n filler)) v) (judgedOf selected v (firstRules n slots)) (n + 1) ≡ judgedOf selected v (firstRules (n + 1) slots)
+    unfolding judgedOf visited
+    judged-selected e =
+        ap (λ (k : ℕ). judgement (orNext (lowest (λ rule. not (selected rule) || holds rule v) 1 (firstRules n slots)) (holds (ruleOf (getD slots n filler)) v) k) (selectedNumber selected (firstRules n slots) + 1)) (add-comm n 1)
+        ∙ judged-next true e
+
+    pub judged-unselected : selected (ruleOf (getD slots n filler)) ≡ false → judgedOf selected v (firstRules n slots) ≡ judgedOf selected v (firstRules (n + 1) slots)
+    unfolding judgedOf
+    judged-unselected e =
+        ap₂ judgement (sym (unless (lowest (λ rule. not (selected rule) || holds rule v) 1 (firstRules n slots)) (1 + n))) (sym (add-zero (selectedNumber selected (firstRules n slots))))
+        ∙ judged-next false e
 
   pub judged-small : (judged : Judged) (n : ℕ) → n ≤ length slots → judged ≡ judgedOf selected v (firstRules n slots) → judged .selected ≤ n
   unfolding judgedOf
   judged-small judged n l e = rw e (number-le selected slots n l)
 
--- ---- one rule
+-- ---- one selected rule
 
-module _ (isSelected holds : Bool) (judged : Judged) (number : ℕ) where
-  pub visited-unselected : isSelected ≡ false → judged ≡ visited isSelected holds judged number
+module _ (holds : Bool) (judged : Judged) (number : ℕ) where
+  pub visited-after : (n : ℕ) → judged .broken ≡ BrokenAt n → record { broken = judged .broken; selected = judged .selected + 1 } ≡ visited holds judged number
   unfolding visited
-  visited-unselected e = rw e
+  visited-after n f = rw f
 
-  pub visited-after : (n : ℕ) → isSelected ≡ true → judged .broken ≡ BrokenAt n → record { broken = judged .broken; selected = judged .selected + 1 } ≡ visited isSelected holds judged number
+  pub visited-kept : judged .broken ≡ Unbroken → holds ≡ true → record { broken = Unbroken; selected = judged .selected + 1 } ≡ visited holds judged number
   unfolding visited
-  visited-after n e f = rw (e, f)
+  visited-kept f h = rw (f, h)
 
-  pub visited-kept : isSelected ≡ true → judged .broken ≡ Unbroken → holds ≡ true → record { broken = Unbroken; selected = judged .selected + 1 } ≡ visited isSelected holds judged number
+  pub visited-broken : judged .broken ≡ Unbroken → holds ≡ false → record { broken = BrokenAt number; selected = judged .selected + 1 } ≡ visited holds judged number
   unfolding visited
-  visited-kept e f h = rw (e, f, h)
-
-  pub visited-broken : isSelected ≡ true → judged .broken ≡ Unbroken → holds ≡ false → record { broken = BrokenAt number; selected = judged .selected + 1 } ≡ visited isSelected holds judged number
-  unfolding visited
-  visited-broken e f h = rw (e, f, h)
+  visited-broken f h = rw (f, h)
 
 -- ---- what is judged by a choice is so by the table
 

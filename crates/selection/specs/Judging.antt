@@ -29,7 +29,6 @@ abbrev pub orNext : Lowest → Bool → ℕ → Lowest
 orNext Unbroken holds number = cond holds Unbroken (BrokenAt number)
 orNext (BrokenAt n) holds number = BrokenAt n
 
--- one rule more
-unfoldable pub visited : Bool → Bool → Judged → ℕ → Judged
-visited isSelected holds judged number =
-    cond isSelected (record { broken = orNext (judged .broken) holds number; selected = judged .selected + 1 }) judged
+-- one selected rule more
+unfoldable pub visited : Bool → Judged → ℕ → Judged
+visited holds judged number = record { broken = orNext (judged .broken) holds number; selected = judged .selected + 1 }

@@ -5,9 +5,7 @@ ghost use Prim.Native.Nat.{_+_, _<_, _≤_};
 ghost use Rattle.rules.specs.Acceptance.{rulesOf};
 ghost use Rattle.rules.specs.Families.{holds};
 ghost use Rattle.selection.specs.Selection.{selects};
-ghost use Rattle.selection.specs.Choices.{chosen};
 ghost use Rattle.selection.specs.Judging.{viewBy, judgedOf, visited};
-use crate::selection::Choice;
 use crate::selection::choice_of;
 use crate::selection::is_chosen;
 use rules::Rule;
@@ -45,18 +43,19 @@ pub fn judge<'a>(
     while i < length {
         let slot = list.slots[i];
         let rule = slot.rule;
-        judged = visit(
-            judged,
-            rule,
-            i + 1,
-            choice,
-            assigned,
-            granted,
-            sessions,
-            active,
-            history,
-            time,
-        );
+        if is_chosen(choice, rule) {
+            judged = visit(
+                judged,
+                rule,
+                i + 1,
+                assigned,
+                granted,
+                sessions,
+                active,
+                history,
+                time,
+            );
+        }
         i += 1;
     }
     judged
@@ -72,12 +71,11 @@ fn slots_in(length: usize) -> usize
     length
 }
 
-// One rule more: it is counted where it is selected, and tested while no rule is broken.
+// One selected rule more: it is counted, and tested while no rule is broken.
 fn visit<'a>(
     judged: Judged,
     rule: Rule,
     number: usize,
-    choice: Choice,
     assigned: &'a [u32; 64],
     granted: &'a [u32; 32],
     sessions: [Session; 32],
@@ -86,11 +84,8 @@ fn visit<'a>(
     time: u64,
 ) -> Judged
     requires { ⌜ judged .selected < 128 ⌝ }
-    ensures { λ r. ⌜ r ≡ visited (chosen choice rule) (holds rule (viewBy (now (assigned .entry)) (now (granted .entry)) sessions (now (active .entry)) (now (history .entry)) time)) judged number ⌝ }
+    ensures { λ r. ⌜ r ≡ visited (holds rule (viewBy (now (assigned .entry)) (now (granted .entry)) sessions (now (active .entry)) (now (history .entry)) time)) judged number ⌝ }
 {
-    if !is_chosen(choice, rule) {
-        return judged;
-    }
     let selected = judged.selected + 1;
     let broken = judged.broken;
     let Lowest::Unbroken = broken else {

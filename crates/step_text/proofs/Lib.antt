@@ -1,4 +1,5 @@
 pub mod Stepping
+pub mod Batching
 pub mod Runs
 pub mod Sizes
 pub mod Rows

@@ -1,31 +1,26 @@
 -- The loops over the lines of a text of steps: what a turn keeps. Assumes nothing.
-use mathlib.Core.Path.{_≡_, refl, sym, ap, _∙_, subst, subst⁻¹}
+use mathlib.Core.Path.{_≡_, refl, sym, ap, _∙_, subst}
 use mathlib.Core.Bool.{Bool, true, false, cond}
-use mathlib.Core.List.{List, [], _∷_, _++_}
+use mathlib.Core.List.{List, [], _∷_}
 use Prim.Native.Nat.{ℕ, zero, suc, _+_, _-_, _≤_, _<_}
 use native.Mathlib.Numerals.{add-one}
 use native.Mathlib.Omega.{arith}
 use lib.ListN.{length, take, drop, length-drop}
 use lib.Dec.{eqb}
-use borrow.Author.Tests.{eqb-true, eqb-false}
-use Rattle.sets.proofs.Booleans.{clash}
+use borrow.Author.Tests.{eqb-false}
 use Rattle.forms.specs.Numbers.{isDigit}
 use Rattle.forms.specs.Kinds.{isSlot, kindOf, lookup}
-use Rattle.forms.specs.Forms.{fill, valuesFit}
-use Rattle.forms.specs.Tables.{linesIn, formAt, found, distinct}
+use Rattle.forms.specs.Tables.{linesIn, startsOf, found, distinct}
 use Rattle.forms.specs.Writing.{lastPlace, Wrote}
-use Rattle.forms.specs.declared.tables.Found.{Found}
 use Rattle.forms.proofs.Finding.{Hits, found-hits}
-use Rattle.forms.proofs.Puts.{then, like, nothing-written, next-most}
+use Rattle.forms.proofs.Puts.{like, nothing-written}
 use Rattle.forms.proofs.Turns.{rest}
 use Rattle.rules.specs.declared.lists.RuleList.{RuleList}
-use Rattle.enforcement.specs.Gate.{stepOf}
 use Rattle.enforcement.specs.Runs.{lastState}
 use Rattle.enforcement.specs.declared.states.State.{State}
-use Rattle.enforcement.specs.declared.states.Next.{Next}
-use Rattle.step_text.specs.Lines.{stepForms, formCount, stepFrom, lineAfter, readStep, StepsRead, steps, bad, onto, lineLength, after, readFrom, readSteps, badLine}
-use Rattle.step_text.specs.Answers.{answerText, answersText}
-use Rattle.step_text.specs.Running.{followed, lineRun, runFrom, textRun}
+use Rattle.step_text.specs.Lines.{stepForms, formCount, stepFrom, lineAfter, readStep, StepsRead, steps, bad, lineLength, after, readFrom, readSteps, badLine}
+use Rattle.step_text.specs.Answers.{answersText}
+use Rattle.step_text.specs.Running.{lineRun, runFrom, textRun}
 use Rattle.step_text.specs.declared.lines.StepLine.{StepLine}
 use Rattle.step_text.specs.declared.lines.StepRead.{StepRead}
 use Rattle.step_text.specs.declared.lines.StepRead.the-variants.{Good, Bad}
@@ -39,6 +34,14 @@ forms-distinct = refl
 pub forms-counted : length (linesIn stepForms) ≡ formCount
 unfolding stepForms linesIn
 forms-counted = refl
+
+-- the index that the code has is the table's
+abbrev pub stepStarts : List ℕ
+stepStarts = 0 ∷ 13 ∷ 28 ∷ 40 ∷ 51 ∷ 62 ∷ 77 ∷ 94 ∷ 109 ∷ 120 ∷ 130 ∷ 143 ∷ 152 ∷ 162 ∷ []
+
+pub index-right : stepStarts ≡ startsOf stepForms
+unfolding stepForms startsOf linesIn
+index-right = refl
 
 -- ---- a good line has a byte at least, and no more than the text
 
@@ -152,7 +155,7 @@ answers-start list s text l at m h = record {
   last = refl;
 }
 
-answers-next : (bound : ℕ) (list : RuleList) (s : State) (text : List ℕ) → 0 < length text
+pub answers-next : (bound : ℕ) (list : RuleList) (s : State) (text : List ℕ) → 0 < length text
     → runFrom (suc bound) list s text ≡ lineRun list s (readStep text) (λ next. runFrom bound list next (drop (lineLength (readStep text)) text))
 unfolding runFrom
 answers-next bound list s [] h = absurd (omega arith)
@@ -162,17 +165,9 @@ text-none : answersText [] ≡ []
 unfolding answersText
 text-none = refl
 
-text-followed : (next : Next) (rest : State → List Next) → answersText (followed next rest) ≡ answerText (next .answer) ++ answersText (rest (next .state))
-unfolding answersText
-text-followed next rest = refl
-
 last-none : (s : State) → lastState s [] ≡ s
 unfolding lastState
 last-none s = refl
-
-last-followed : (s : State) (next : Next) (rest : State → List Next) → lastState s (followed next rest) ≡ lastState (next .state) (rest (next .state))
-unfolding lastState
-last-followed s next rest = refl
 
 -- where nothing is left to run, all is written, and the state is the last one
 ended : {list : RuleList} {s₀ : State} {text l₀ : List ℕ} {at : ℕ} {l : List ℕ} {state : State} {remaining : List ℕ} {place : ℕ}
@@ -194,40 +189,6 @@ module _ {list : RuleList} {s₀ : State} {text l₀ : List ℕ} {at : ℕ} {l :
   pub answers-stop : (number : ℕ) → a ≡ Bad number → Wrote l₀ at (answersText (textRun list s₀ text)) place l × (state ≡ lastState s₀ (textRun list s₀ text))
   answers-stop number g =
       ended v (line-next ∙ ap (λ (x : StepRead). lineRun list state x (λ next. runFrom (v .bound - 1) list next (drop (lineLength x) remaining))) g)
-
-  module _ (good : StepLine) (g : a ≡ Good good) where
-    pub answers-fits : good .length ≤ length remaining
-    answers-fits = good-within remaining a good e g .1
-
-    pub answers-less : length (take (length remaining - good .length) (drop (good .length) remaining)) < length remaining
-    answers-less = rw (rest remaining (good .length)) (omega (arith, length-drop (good .length) remaining, good-within remaining a good e g))
-
-    pub answers-turn : (next : Next) → next ≡ stepOf list state (good .step)
-        → {place′ : ℕ} {l′ : List ℕ} → Wrote l place (answerText (next .answer)) place′ l′ → length l′ ≡ length l
-        → Answering list s₀ text l₀ at l′ (next .state) (take (length remaining - good .length) (drop (good .length) remaining)) place′
-    answers-turn next n {place′} {l′} w k = record {
-      bound = v .bound - 1;
-      enough = omega (arith, answers-less, v .enough);
-      room = v .room;
-      within = next-most w;
-      same = k ∙ v .same;
-      left = λ r m z.
-          v .left r m
-          (like (ap answersText run-on ∙ text-followed next later)
-          (then (omega (arith, v .same, v .room)) w (subst (λ (u : List ℕ). Wrote l′ place′ (answersText (runFrom (v .bound - 1) list (next .state) u)) r m) (rest remaining (good .length)) z)));
-      last =
-          ap (λ (u : List ℕ). lastState (next .state) (runFrom (v .bound - 1) list (next .state) u)) (rest remaining (good .length))
-          ∙ sym (last-followed state next later) ∙ ap (lastState state) (sym run-on) ∙ v .last;
-    }
-      where
-        later : State → List Next
-        later s = runFrom (v .bound - 1) list s (drop (good .length) remaining)
-
-        run-on : runFrom (v .bound) list state remaining ≡ followed next later
-        run-on =
-            line-next
-            ∙ ap (λ (x : StepRead). lineRun list state x (λ s. runFrom (v .bound - 1) list s (drop (lineLength x) remaining))) g
-            ∙ ap (λ (x : Next). followed x later) (sym n)
 
 pub answers-end : {list : RuleList} {s₀ : State} {text l₀ : List ℕ} {at : ℕ} {l : List ℕ} {state : State} {remaining : List ℕ} {place : ℕ}
     → Answering list s₀ text l₀ at l state remaining place → length remaining ≤ 0

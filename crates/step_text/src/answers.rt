@@ -9,6 +9,9 @@ const FORMS: [u8; 31] = *b"\
 (no ? ? ?)\n\
 (bad ? ?)\n";
 
+// Where each form starts, and where the last one ends.
+const STARTS: [usize; 4] = [0, 10, 21, 31];
+
 // The line of an answer, from place `at` of the lent list on; where it ends. Bytes past the list's end are left out.
 pub fn put_answer(answer: Answer, out: &mut [u8], at: usize) -> usize
     ensures { λ r. ⌜ Wrote (now (out .entry)) at (answerText answer) r (now (out .exit)) ⌝ }
@@ -31,5 +34,5 @@ fn put(form: usize, first: u64, second: u64, third: u64, out: &mut [u8], at: usi
     ensures { λ r. ⌜ Wrote (now (out .entry)) at (lineText form first second third) r (now (out .exit)) ⌝ }
 {
     let values = [first, second, third];
-    forms::write(&FORMS, form, &values, out, at)
+    forms::write_line(&FORMS, &STARTS, form, &values, out, at)
 }

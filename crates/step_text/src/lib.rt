@@ -1,5 +1,6 @@
 // Steps as texts, and the answers to them.
 mod answers;
+mod batches;
 mod lines;
 mod running;
 

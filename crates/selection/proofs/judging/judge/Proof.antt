@@ -3,7 +3,8 @@
 -- Assumes nothing.
 use borrow.Author.Needs.{needs}
 use mathlib.Core.Path.{_≡_, refl, sym, _∙_}
-use Prim.Native.Nat.{_≤_, _-_}
+use mathlib.Core.Logic.{⊎-elim}
+use Prim.Native.Nat.{_≤_, _<_, _-_}
 use native.Mathlib.Omega.{arith}
 use lib.ListN.{length-map}
 use Rattle.rules.specs.Families.{view}
@@ -11,7 +12,7 @@ use Rattle.steps.specs.Lowest.{lowest}
 use Rattle.selection.specs.Selection.{selectedNumber}
 use Rattle.selection.specs.Choices.{chosen}
 use Rattle.selection.specs.Judging.{judgedOf}
-use Rattle.selection.proofs.Judgement.{firstRules, rules-bounded, judged-more, judged-small, judged-told}
+use Rattle.selection.proofs.Judgement.{firstRules, rules-bounded, judged-selected, judged-unselected, judged-small, judged-told}
 use Rattle.selection.proofs.judging.judge.Statement.{statement}
 use Rattle.selection.proofs.judging.judge.Tie as tie
 
@@ -41,13 +42,18 @@ mul-slot c = search needs
 element-copy-out-slot : tie.Need-element-copy-out-slot Inv-loop μ-loop
 element-copy-out-slot c = search needs
 
+is-chosen-requires : tie.Need-is-chosen-requires Inv-loop μ-loop
+is-chosen-requires c κs = search needs
+
 add-visit : tie.Need-add-visit Inv-loop μ-loop
 add-visit c = search needs
 
 visit-requires : tie.Need-visit-requires Inv-loop μ-loop
 visit-requires c κs =
-    let within : c .before .before .loop .i ≤ lib.ListN.length (c .before .before .before .before .before .args .t1 .slots) = omega (arith, slots-length (c .before .before .before .before .before)) in
-    let small = judged-small _ _ _ _ (c .before .before .loop .i) within (c .before .before .loop .inv .1) in
+    let loop = c .before .before .before .before .loop in
+    let start = c .before .before .before .before .before .before .before in
+    let within : loop .i ≤ lib.ListN.length (start .args .t1 .slots) = omega (arith, slots-length start) in
+    let small = judged-small _ _ _ _ (loop .i) within (loop .inv .1) in
     omega (arith, small)
 
 add-i : tie.Need-add-i Inv-loop μ-loop
@@ -57,10 +63,16 @@ loop-less : tie.Need-loop-less Inv-loop μ-loop
 loop-less c = search needs
 
 loop-again : tie.Need-loop-again Inv-loop μ-loop
-loop-again c = (
-  search needs,
-  c .visit .ensures ∙ rw (c .before .before .before .loop .inv .1) (judged-more _ _ (c .before .before .before .before .before .before .args .t1 .slots) (c .before .before .before .loop .i) _ (omega (arith, slots-length (c .before .before .before .before .before .before)))),
-)
+loop-again c =
+    let loop = c .before .before .before .before .loop in
+    let start = c .before .before .before .before .before .before .before in
+    let below : loop .i < lib.ListN.length (start .args .t1 .slots) = omega (arith, slots-length start) in (
+      search needs,
+      ⊎-elim
+          (λ w. w .2 ∙ w .1 .ensures ∙ rw (loop .inv .1) (judged-selected _ _ (start .args .t1 .slots) (loop .i) _ below (sym (c .before .is-chosen .ensures) ∙ w .0 .taken)))
+          (λ w. w .1 ∙ loop .inv .1 ∙ judged-unselected _ _ (start .args .t1 .slots) (loop .i) _ below (sym (c .before .is-chosen .ensures) ∙ w .0 .left))
+          (c .if1 .came),
+    )
 
 returns : tie.Need-returns Inv-loop μ-loop
 returns c =
@@ -81,6 +93,7 @@ judge-spec =
     loop-holds
     mul-slot
     element-copy-out-slot
+    is-chosen-requires
     add-visit
     visit-requires
     add-i

@@ -1,18 +1,11 @@
 -- `selection::judging::visit` meets its contract.
 -- Assumes nothing.
 use mathlib.Core.Path.{sym, ap, _∙_}
-use borrow.Author.Tests.{not-true, not-false}
 use Rattle.rules.specs.Breach.{isKept}
-use Rattle.selection.proofs.Judgement.{visited-unselected, visited-after, visited-kept, visited-broken}
+use Rattle.selection.proofs.Judgement.{visited-after, visited-kept, visited-broken}
 use borrow.Author.Needs.{needs}
 use Rattle.selection.proofs.judging.visit.Statement.{statement}
 use Rattle.selection.proofs.judging.visit.Tie as tie
-
-is-chosen-requires : tie.Need-is-chosen-requires
-is-chosen-requires c κs = search needs
-
-returns : tie.Need-returns
-returns c = visited-unselected _ _ _ _ (sym (c .before .is-chosen .ensures) ∙ not-true _ (c .if1 .taken))
 
 add-selected : tie.Need-add-selected
 add-selected c = search needs
@@ -23,8 +16,8 @@ enum-told c = search needs
 enum-told-2 : tie.Need-enum-told-2
 enum-told-2 c = search needs
 
-returns-2 : tie.Need-returns-2
-returns-2 c = visited-after _ _ _ _ _ (sym (c .before .before .before .before .is-chosen .ensures) ∙ not-false _ (c .before .before .before .if1 .left)) (c .enum-told2 .given .1)
+returns : tie.Need-returns
+returns c = visited-after _ _ _ _ (c .enum-told2 .given .1)
 
 test-requires : tie.Need-test-requires
 test-requires c κs = search needs
@@ -35,24 +28,22 @@ enum-told-3 c = search needs
 enum-told-4 : tie.Need-enum-told-4
 enum-told-4 c = search needs
 
-returns-3 : tie.Need-returns-3
-returns-3 c = visited-kept _ _ _ _ (sym (c .before .before .before .before .before .before .before .is-chosen .ensures) ∙ not-false _ (c .before .before .before .before .before .before .if1 .left)) (c .before .before .before .enum-told .given .1) (ap isKept (sym (c .before .before .test .ensures) ∙ c .enum-told3 .given .1))
+returns-2 : tie.Need-returns-2
+returns-2 c = visited-kept _ _ _ (c .before .before .before .enum-told .given .1) (ap isKept (sym (c .before .before .test .ensures) ∙ c .enum-told3 .given .1))
 
-returns-4 : tie.Need-returns-4
-returns-4 c = visited-broken _ _ _ _ (sym (c .before .before .before .before .before .before .before .is-chosen .ensures) ∙ not-false _ (c .before .before .before .before .before .before .if1 .left)) (c .before .before .before .enum-told .given .1) (ap isKept (sym (c .before .before .test .ensures) ∙ c .enum-told4 .given .1))
+returns-3 : tie.Need-returns-3
+returns-3 c = visited-broken _ _ _ (c .before .before .before .enum-told .given .1) (ap isKept (sym (c .before .before .test .ensures) ∙ c .enum-told4 .given .1))
 
 pub visit-spec : {M : Type 1} → statement M
 visit-spec =
     tie.close
     (tie.spec
-    is-chosen-requires
-    returns
     add-selected
     enum-told
     enum-told-2
-    returns-2
+    returns
     test-requires
     enum-told-3
     enum-told-4
-    returns-3
-    returns-4)
+    returns-2
+    returns-3)

@@ -2,39 +2,19 @@
 -- Assumes nothing.
 use mathlib.Core.Path.{_≡_, sym, ap, ap₂, _∙_}
 use mathlib.Core.Bool.{Bool, true, _&&_}
-use lib.ListN.{length-map}
-use mir.Syntax.{w32, w64}
 use borrow.Author.Tests.{not-true, not-false}
 use Rattle.rules.specs.Acceptance.{rulesOf, listAccepted}
 use Rattle.steps.specs.Steps.{actionOf}
 use Rattle.enforcement.specs.States.{stateAccepted}
 use Rattle.enforcement.specs.Gate.{stepOf}
 use Rattle.enforcement.specs.Narrow.{Narrow}
-use Rattle.enforcement.specs.Reached.{Typed}
 use Rattle.enforcement.specs.declared.states.Next.{Next}
 use Rattle.enforcement.proofs.Agreement.{selected-only}
 use Rattle.enforcement.proofs.Answering.{step-unaccepted, step-parts, accepted-length}
-use Rattle.enforcement.proofs.Typing.{words-small}
+use Rattle.enforcement.proofs.Typing.{typed-state}
 use borrow.Author.Needs.{needs}
 use Rattle.enforcement.proofs.states.State.step.Statement.{statement}
 use Rattle.enforcement.proofs.states.State.step.Tie as tie
-
--- a state that is handed in is a value of its type
-typed : (c : tie.Start) → Typed (c .args .t1)
-typed c =
-    let s = c .args .t1 in
-    let fields = c .good .0 .1 .1 in
-    record {
-      users = sym (length-map (s .assigned) _) ∙ fields .1 .0 .1 .0 .1;
-      roles = sym (length-map (s .granted) _) ∙ fields .1 .1 .0 .1 .0 .1;
-      allSessions = sym (length-map (s .sessions) _) ∙ fields .1 .1 .1 .0 .1 .0 .1;
-      actives = sym (length-map (s .active) _) ∙ fields .1 .1 .1 .1 .0 .1 .0 .1;
-      records = sym (length-map (s .history) _) ∙ fields .1 .1 .1 .1 .1 .0 .1 .0 .1;
-      smallAssigned = words-small w32 (s .assigned) (fields .1 .0 .0) (fields .1 .0 .1 .1);
-      smallGranted = words-small w32 (s .granted) (fields .1 .1 .0 .0) (fields .1 .1 .0 .1 .1);
-      smallActive = words-small w32 (s .active) (fields .1 .1 .1 .1 .0 .0) (fields .1 .1 .1 .1 .0 .1 .1);
-      smallHistory = words-small w64 (s .history) (fields .1 .1 .1 .1 .1 .0 .0) (fields .1 .1 .1 .1 .1 .0 .1 .1);
-    }
 
 -- what is given is what document 01 says with the selected rules alone
 both-kept : (c : tie.Start) (next : Next) → next ≡ stepOf (c .args .list) (c .args .t1) (c .args .step) →
@@ -42,7 +22,7 @@ both-kept : (c : tie.Start) (next : Next) → next ≡ stepOf (c .args .list) (c
     × (listAccepted (c .args .list) ≡ true → stateAccepted (c .args .t1) ≡ true → Narrow (rulesOf (c .args .list)) (c .args .t1) (actionOf (c .args .step)) next)
 both-kept c next given = (
   given,
-  λ listed stated. selected-only (c .args .list) listed (c .args .t1) (record { typed = typed c; unrefused = stated }) (c .args .step) next .0 given,
+  λ listed stated. selected-only (c .args .list) listed (c .args .t1) (record { typed = typed-state (c .args .t1) _ (c .good .0); unrefused = stated }) (c .args .step) next .0 given,
 )
 
 is-accepted-requires : tie.Need-is-accepted-requires
