@@ -1,4 +1,5 @@
-"""What tests/vectors and tests/guide share: the program, the library through library/rust/examples/handover.rs, and the tables."""
+"""What tests/vectors, tests/guide and tests/library share: the program, the library through library/rust/examples/handover.rs, C
+programs, and the tables."""
 
 import pathlib
 import re
@@ -8,6 +9,7 @@ import tempfile
 
 ROOT = pathlib.Path(__file__).resolve().parent.parent
 EXAMPLES = ROOT / "library/rust/target/debug/examples"
+STRICT = "-Wall -Wextra -Wpedantic -Werror -I library/include".split()
 
 FAMILIES = """before max-users max-roles max-permissions max-active apart apart-active needs during at two-hands
               same-hand""".split()
@@ -15,6 +17,10 @@ FAMILIES = """before max-users max-roles max-permissions max-active apart apart-
 
 def build_examples():
     run(["cargo", "build", "-q", "--offline", "--examples", "--manifest-path", "library/rust/Cargo.toml"])
+
+
+def compile_c(source, program, *flags):
+    run(["cc", *STRICT, "-std=c11", *flags, source, "target/staticlib/libpitch_gate.a", "-o", program])
 
 
 def run(command):

@@ -10,14 +10,14 @@
 #include <stdlib.h>
 #include <string.h>
 
-enum { INPUT_MOST = 65536, DESK_STEPS = 12 };
+enum { DESK_STEPS = 12 };
 
 struct text {
     const uint8_t *bytes;
     size_t length;
 };
 
-static uint8_t input[INPUT_MOST];
+static uint8_t input[PITCH_GATE_INPUT_MOST];
 static uint8_t answers[PITCH_GATE_OUTPUT_MOST];
 static uint8_t desk_state[PITCH_GATE_STATE_MOST];
 static uint8_t hub_state[PITCH_GATE_STATE_MOST];
@@ -27,7 +27,7 @@ static struct text first_lines(struct text text, size_t lines);
 static struct text rest_after(struct text text, struct text part);
 static struct text until_steps(struct text text);
 static void print_beside(struct text steps, struct text answered);
-static void stop(uint64_t number, const uint64_t *report);
+static void stop(uint64_t number, const struct pitch_gate_report *report);
 
 int main(void)
 {
@@ -37,32 +37,33 @@ int main(void)
     const struct text steps = rest_after(whole, (struct text){whole.bytes, rules.length + steps_line.length});
     const struct text at_desk = first_lines(steps, DESK_STEPS);
 
-    uint8_t fresh[8];
-    uint64_t report[PITCH_GATE_REPORT_LENGTH];
-    const uint64_t number = pitch_gate_fresh_state(fresh, sizeof fresh, report);
-    if (number != PITCH_GATE_DONE) {
-        stop(number, report);
+    uint8_t fresh[PITCH_GATE_FRESH_MOST];
+    struct pitch_gate_report report;
+    const uint64_t number = pitch_gate_fresh_state(fresh, sizeof fresh, &report);
+    if (number != PITCH_GATE_CALL_COMPLETED) {
+        stop(number, &report);
     }
-    const struct text start = {fresh, (size_t)report[PITCH_GATE_REPORT_STATE]};
+    const struct text start = {fresh, report.state};
 
     const struct text saved = run("at the desk", rules, start, at_desk, desk_state);
     run("in the hub", rules, saved, rest_after(steps, at_desk), hub_state);
     return EXIT_SUCCESS;
 }
 
-/* Runs the steps, prints each beside its answer, then the saved state, and returns it. */
+/* Runs the steps, prints each beside its answer, then the saved state, and returns it. A hub would store that state before it acts on
+ * a `(yes ..)`. */
 static struct text run(const char *place, struct text rules, struct text state, struct text steps, uint8_t *next)
 {
-    uint64_t report[PITCH_GATE_REPORT_LENGTH];
+    struct pitch_gate_report report;
     const uint64_t number =
         pitch_gate_run_steps(rules.bytes, rules.length, state.bytes, state.length, steps.bytes, steps.length, answers,
-                             sizeof answers, next, PITCH_GATE_STATE_MOST, report);
-    if (number != PITCH_GATE_DONE) {
-        stop(number, report);
+                             sizeof answers, next, PITCH_GATE_STATE_MOST, &report);
+    if (number != PITCH_GATE_CALL_COMPLETED) {
+        stop(number, &report);
     }
-    const struct text saved = {next, (size_t)report[PITCH_GATE_REPORT_STATE]};
+    const struct text saved = {next, report.state};
     printf("Steps %s:\n", place);
-    print_beside(steps, (struct text){answers, (size_t)report[PITCH_GATE_REPORT_ANSWERS]});
+    print_beside(steps, (struct text){answers, report.output});
     printf("State saved %s:\n%.*s\n", place, (int)saved.length, (const char *)saved.bytes);
     return saved;
 }
@@ -107,11 +108,12 @@ static struct text rest_after(struct text text, struct text part)
     return (struct text){text.bytes + part.length, text.length - part.length};
 }
 
-static void stop(uint64_t number, const uint64_t *report)
+static void stop(uint64_t number, const struct pitch_gate_report *report)
 {
-    static const char *const texts[] = {"nothing",   "the rule list",         "the saved state",
-                                        "the steps", "the answers' space", "the state's space"};
-    fprintf(stderr, "refused with %llu in %s at %llu\n", (unsigned long long)number, texts[report[PITCH_GATE_REPORT_TEXT]],
-            (unsigned long long)report[PITCH_GATE_REPORT_PLACE]);
+    static const char *const texts[] = {"nothing",   "the rule list",      "the saved state",
+                                        "the steps", "the output's space", "the state's space"};
+    const char *const text = report->text < sizeof texts / sizeof texts[0] ? texts[report->text] : "another text";
+    fprintf(stderr, "refused with %llu in %s at %llu: %s\n", (unsigned long long)number, text,
+            (unsigned long long)report->place, pitch_gate_cause(number));
     exit(EXIT_FAILURE);
 }

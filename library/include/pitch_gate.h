@@ -1,24 +1,66 @@
 /* The pitch access gate as a library: rule lists, saved states and steps in, answers and saved states out.
  *
- * Every text is document 01's: one form a line, a line feed after each. Every call is a function of the bytes that it is
- * lent and of nothing else: no heap, no threads, no global state, no input or output. Two calls on different bytes may run
- * at the same time. From outside the library calls nothing but memcpy, memmove, memset and memcmp.
- * 160 KiB of stack were enough for every call that was tried (library/rust/tests); this is measured and not proved.
+ * FORMATS.md, beside the folder of this header, has every text: the forms of rules, saved states, steps and answers, the
+ * ranges of their numbers, the order of saved lines, the epoch and the units. This header and that page are all that a
+ * caller needs.
  *
- * What a call promises, whatever bytes the texts hold:
- *   - it ends, and returns the refusal's number, or PITCH_GATE_DONE where nothing is refused;
- *   - it fills all four entries of `report`, on a refusal too;
- *   - where nothing is refused it writes the whole text from the first byte of the lent space on; bytes past it stay;
- *   - on a refusal every byte of every lent space stays as it was, and both lengths in `report` are 0;
- *   - it never writes what it is lent as `const`.
+ * A call decides nothing by itself
+ *   A call returns a number: PITCH_GATE_CALL_COMPLETED (0), or why it refused. Completed says that the texts were read and
+ *   the results written, and nothing of any step: whether a step was granted stands in its answer line, `(yes ..)` or
+ *   `(no ..)`. So
  *
- * What it assumes of its caller, and cannot test:
- *   - no pointer is null, also beside a length of 0, and each points to that many bytes (`report`: to
- *     PITCH_GATE_REPORT_LENGTH numbers, aligned for uint64_t);
- *   - a lent space and `report` overlap nothing else that is lent to the same call; texts that are only read may overlap;
- *   - nobody else writes any of it during the call.
+ *       if (pitch_gate_run_steps(..) == PITCH_GATE_CALL_COMPLETED) release();      WRONG: releases on every `no`
  *
- * Link with target/staticlib/libpitch_gate.a, which `rt staticlib pitch_gate` proves and writes.
+ *   Read the answers, a line for each step. A refused call has run no step: take it as no to every one of them.
+ *
+ * How a hub uses it
+ *   - It keeps the rule list and the saved state as texts. Each request is a call of pitch_gate_run_steps with both and one
+ *     or more steps; the saved state that it writes goes into the next call.
+ *   - It stores that state before it acts on a `(yes ..)`. Otherwise a loss of power between the two forgets the access,
+ *     and with it who did what on which object.
+ *   - After a restart it goes on from the state that it stored last, and its first step is a `(clock t)`. Before the first
+ *     run ever it starts from pitch_gate_fresh_state.
+ *   - Time stands still between clocks. Hours are looked at when a `(clock t)` comes and when a role is activated, and at no
+ *     other time, so give a clock at each start and end of hours, and one before each activation; more often does no harm.
+ *     A time before the state's own is 21. A time too far ahead cannot be taken back.
+ *   - A saved text that was cut is not noticed where it is cut after a line feed: each beginning of a saved text that ends
+ *     so may be a saved text itself. Store its length or a checksum beside it.
+ *   - After a handover only one end may go on from the state: the library cannot see that two did.
+ *
+ * What a call promises, whatever bytes the texts hold
+ *   - It ends, and is a function of the bytes that it is lent: no heap, no threads, no global state, no input or output.
+ *   - It fills every field of `report`, on a refusal too.
+ *   - Completed, it has written each text whole, from the first byte of its space on; bytes past it stay.
+ *   - Refused, it has left every byte of every lent space, and both lengths in `report` are 0.
+ *   - It never writes what it is lent as `const`.
+ *   That each function meets its contract is proved; the proof ends at the machine code, which is tested (tests/).
+ *
+ * What it assumes of its caller, and cannot see
+ *   - Each pointer has as many bytes as its length says. Beside a length of 0 any pointer will do, a null pointer too: it is
+ *     not read and not written (tests/library).
+ *   - `report` is not null.
+ *   - A lent space and `report` overlap nothing else that is lent to the same call. In particular `next` is not `state`: use
+ *     two spaces and change them over. Where this is broken the call promises nothing at all, not even to write the lent
+ *     bytes alone.
+ *   - Nobody else writes the lent bytes during the call.
+ *   Texts that are only read may overlap, and calls in different threads may read the same ones at the same time.
+ *
+ * Platform
+ *   x86-64 Linux, the System V calling convention, 64-bit pointers; no instruction beyond the baseline of x86-64. Of its
+ *   linker it needs memcpy and memset (a later build may need memmove and memcmp), and no other symbol. Less than 128 KiB of
+ *   code and tables, no data that is written. Stack: PITCH_GATE_STACK_MOST. The archive is target/staticlib/libpitch_gate.a,
+ *   which `rt staticlib pitch_gate` proves and writes.
+ *   Cost of a call, as measured on one core of a server (docs/SPEED.md says how): one step takes about 10 microseconds with
+ *   7 rules and a saved state of 15 lines, 30 with 128 rules, and 6 milliseconds with 128 rules and a full saved state. Nearly
+ *   all of it is reading and writing the texts; a further step in the same call takes less than a microsecond.
+ *
+ * Version
+ *   PITCH_GATE_VERSION is 10,000 times the major version, 100 times the minor one, and the third number. With the same major
+ *   version what works goes on working: a call on texts that were accepted answers the same, saved states and rule lists
+ *   come back as they were, no function, field, number or text changes its meaning. A higher minor version may add functions,
+ *   forms of lines, numbers and texts, and take more stack: treat a number that you do not know as a refusal. A higher third
+ *   number changes nothing that is said here. So a caller may start where
+ *   pitch_gate_version() / 10000 == PITCH_GATE_VERSION / 10000 and pitch_gate_version() >= PITCH_GATE_VERSION.
  */
 #ifndef PITCH_GATE_H
 #define PITCH_GATE_H
@@ -30,95 +72,145 @@
 extern "C" {
 #endif
 
-/* The entries of `report`. */
-enum pitch_gate_report {
-    PITCH_GATE_REPORT_TEXT = 0,    /* which text or space the number is about: one of pitch_gate_text */
-    PITCH_GATE_REPORT_PLACE = 1,   /* the line of that text, from 1; for 17 the rule; 0 where there is none */
-    PITCH_GATE_REPORT_ANSWERS = 2, /* bytes of answers written (pitch_gate_respond: of output) */
-    PITCH_GATE_REPORT_STATE = 3,   /* bytes of saved state written */
-    PITCH_GATE_REPORT_LENGTH = 4
-};
+#define PITCH_GATE_VERSION 10000 /* 1.0.0 */
 
-/* What report[PITCH_GATE_REPORT_TEXT] says. */
-enum pitch_gate_text {
-    PITCH_GATE_TEXT_NONE = 0,          /* nothing is refused */
-    PITCH_GATE_TEXT_RULES = 1,         /* the rule list */
-    PITCH_GATE_TEXT_STATE = 2,         /* the saved state */
-    PITCH_GATE_TEXT_STEPS = 3,         /* the steps */
-    PITCH_GATE_TEXT_ANSWERS_SPACE = 4, /* the space lent for the answers (pitch_gate_respond: for the output) */
-    PITCH_GATE_TEXT_STATE_SPACE = 5    /* the space lent for the saved state */
-};
+/* The version of the archive that is linked, as PITCH_GATE_VERSION is of this header. */
+uint64_t pitch_gate_version(void);
 
-/* Document 01's table "Refused": each number has one cause. */
+/* The number that a call returns, or that an answer line holds. Each refusal has one number, and each number one cause. */
 enum pitch_gate_number {
-    PITCH_GATE_DONE = 0, /* nothing is refused */
+    PITCH_GATE_CALL_COMPLETED = 0, /* no refusal of the call: read what it wrote */
 
     /* returned by the functions below */
-    PITCH_GATE_NO_FORM = 10,             /* line is no form of its text */
-    PITCH_GATE_NUMBER_OUT_OF_RANGE = 11, /* number outside its range (rules, saved) */
-    PITCH_GATE_RULE_NOT_NEXT = 12,       /* rule number not the next */
-    PITCH_GATE_SAME_TWICE = 13,          /* same role or permission twice in a rule */
-    PITCH_GATE_NO_SUCH_TERM = 14,        /* no such date, A after B, h = k, box a > c or b > d */
-    PITCH_GATE_OUT_OF_ORDER = 15,        /* saved line out of order or twice */
-    PITCH_GATE_WITHOUT_OPEN = 16,        /* place or active without its open, or role not assigned */
-    PITCH_GATE_STATE_BREAKS_RULE = 17,   /* saved state breaks a rule */
-    PITCH_GATE_SPACE_TOO_SHORT = 18,     /* lent space shorter than the text or answers */
-    PITCH_GATE_INPUT_TOO_LONG = 19,      /* program input too long; in pitch_gate_run_steps, steps too long */
+    PITCH_GATE_NO_FORM = 10,                   /* line is no form of its text */
+    PITCH_GATE_NUMBER_OUT_OF_RANGE = 11,       /* number outside its range (rules, saved) */
+    PITCH_GATE_RULE_NOT_NEXT = 12,             /* rule number not the next */
+    PITCH_GATE_SAME_TWICE = 13,                /* same role or permission twice in a rule */
+    PITCH_GATE_TERM_OR_SHAPE_UNSOUND = 14,     /* no such date, A after B, h = k, box a > c or b > d */
+    PITCH_GATE_OUT_OF_ORDER = 15,              /* saved line out of order or twice */
+    PITCH_GATE_EARLIER_LINE_MISSING = 16,      /* place or active without its open, or role not assigned */
+    PITCH_GATE_STATE_BREAKS_RULE = 17,         /* saved state breaks a rule */
+    PITCH_GATE_SPACE_TOO_SHORT = 18,           /* lent space shorter than the text or answers */
+    PITCH_GATE_INPUT_TOO_LONG = 19,            /* program input too long */
 
     /* never returned: in the answer to a step, `(no number rule selected)` */
-    PITCH_GATE_STEP_OUT_OF_RANGE = 20, /* step's number, its kind's included, outside its range */
-    PITCH_GATE_TIME_PAST = 21,         /* t before the present time */
-    PITCH_GATE_SESSION_OPEN = 22,      /* session open */
-    PITCH_GATE_SESSION_NOT_OPEN = 23,  /* session not open */
-    PITCH_GATE_ALREADY = 24,           /* already assigned, granted, active in this session */
-    PITCH_GATE_NOT_YET = 25,           /* not assigned, granted, active in this session */
-    PITCH_GATE_NOT_ASSIGNED = 26,      /* role not assigned to the session's user */
-    PITCH_GATE_ROLE_ACTIVE = 27,       /* role active in a session of the user */
-    PITCH_GATE_NOT_CARRIED = 28,       /* no role active in the session carries the permission */
-    PITCH_GATE_RULE_BROKEN = 30        /* a rule broken in the target */
+    PITCH_GATE_STEP_OUT_OF_RANGE = 20,         /* step's number, its kind's included, outside its range */
+    PITCH_GATE_TIME_PAST = 21,                 /* t before the present time */
+    PITCH_GATE_SESSION_OPEN = 22,              /* session open */
+    PITCH_GATE_SESSION_NOT_OPEN = 23,          /* session not open */
+    PITCH_GATE_ALREADY_THERE = 24,             /* already assigned, granted, active in this session */
+    PITCH_GATE_NOT_THERE = 25,                 /* not assigned, granted, active in this session */
+    PITCH_GATE_NOT_ASSIGNED = 26,              /* role not assigned to the session's user */
+    PITCH_GATE_ROLE_ACTIVE = 27,               /* role active in a session of the user */
+    PITCH_GATE_NOT_CARRIED = 28,               /* no role active in the session carries the permission */
+    PITCH_GATE_RULE_BROKEN = 30                /* a rule broken in the target */
 };
 
-/* The most bytes that are read: the input of pitch_gate_respond, the steps of pitch_gate_run_steps. Rule lists and saved
- * states have no limit of their own. */
+/* The cause of a number in words, for people and logs. */
+static inline const char *pitch_gate_cause(uint64_t number)
+{
+    switch (number) {
+    case 0: return "the call completed";
+    case 10: return "line is no form of its text";
+    case 11: return "number outside its range (rules, saved)";
+    case 12: return "rule number not the next";
+    case 13: return "same role or permission twice in a rule";
+    case 14: return "no such date, A after B, h = k, box a > c or b > d";
+    case 15: return "saved line out of order or twice";
+    case 16: return "place or active without its open, or role not assigned";
+    case 17: return "saved state breaks a rule";
+    case 18: return "lent space shorter than the text or answers";
+    case 19: return "program input too long";
+    case 20: return "step's number, its kind's included, outside its range";
+    case 21: return "t before the present time";
+    case 22: return "session open";
+    case 23: return "session not open";
+    case 24: return "already assigned, granted, active in this session";
+    case 25: return "not assigned, granted, active in this session";
+    case 26: return "role not assigned to the session's user";
+    case 27: return "role active in a session of the user";
+    case 28: return "no role active in the session carries the permission";
+    case 30: return "a rule broken in the target";
+    default: return "a number that this header does not know";
+    }
+}
+
+/* What a refusal is about. */
+enum pitch_gate_text {
+    PITCH_GATE_TEXT_NONE = 0,         /* the call completed */
+    PITCH_GATE_TEXT_RULES = 1,        /* the rule list */
+    PITCH_GATE_TEXT_STATE = 2,        /* the saved state */
+    PITCH_GATE_TEXT_STEPS = 3,        /* the steps */
+    PITCH_GATE_TEXT_OUTPUT_SPACE = 4, /* the space lent for the answers, the output or the copy of a rule list */
+    PITCH_GATE_TEXT_STATE_SPACE = 5   /* the space lent for the saved state */
+};
+
+/* What each call fills in. */
+struct pitch_gate_report {
+    uint64_t text;   /* what the refusal is about: one of pitch_gate_text */
+    uint64_t place;  /* the line of that text, from 1; for 17 the rule; for 18 the bytes that the space needs; else 0 */
+    uint64_t output; /* bytes written of the answers, the output or the copy of a rule list */
+    uint64_t state;  /* bytes written of the saved state */
+};
+
+#ifdef __cplusplus
+static_assert(sizeof(struct pitch_gate_report) == 32, "the library fills four numbers of 64 bits");
+#else
+_Static_assert(sizeof(struct pitch_gate_report) == 32, "the library fills four numbers of 64 bits");
+#endif
+
+/* The most bytes that are read: the input of pitch_gate_respond, the steps of pitch_gate_run_steps. */
 #define PITCH_GATE_INPUT_MOST 65536
 
-/* Spaces that are always long enough, in bytes. */
+/* No accepted text is longer. */
+#define PITCH_GATE_RULES_MOST 8980   /* a rule list: 128 boxes */
+#define PITCH_GATE_STATE_MOST 997501 /* a saved state: every line of its forms, with the longest time, users and positions */
+
+/* Spaces that are always long enough; for a saved state PITCH_GATE_STATE_MOST, for a rule list PITCH_GATE_RULES_MOST. */
 #define PITCH_GATE_OUTPUT_MOST 131072 /* the output of pitch_gate_respond, the answers of pitch_gate_run_steps */
 #define PITCH_GATE_ANSWER_MOST 16     /* the answer to one step: `(no 30 128 128)` and its line feed */
-#define PITCH_GATE_STATE_MOST 997501  /* a saved state: every line of its forms, with the longest time, users and positions */
+#define PITCH_GATE_FRESH_MOST 8       /* the fresh state: `(now 0)` and its line feed */
+
+/* No call takes more bytes of stack, but for what memcpy and memset take: tests/stack finds it in the archive. */
+#define PITCH_GATE_STACK_MOST 131072
+
+/* Reads a rule list, a saved state and steps, runs the steps from that state, and writes an answer line for each step,
+ * `(yes selected ended)` or `(no number rule selected)`, and the saved state after the last.
+ * Refused, in this order: 19 where the steps are above PITCH_GATE_INPUT_MOST bytes; what pitch_gate_check_state refuses; 10
+ * of the steps with the first bad line; 18 where the space for the answers is too short (with PITCH_GATE_OUTPUT_MOST bytes
+ * never); 18 where the space for the state is (with PITCH_GATE_STATE_MOST bytes never).
+ * A step that is answered `no` is no refusal of the call. */
+uint64_t pitch_gate_run_steps(const uint8_t *rules, size_t rules_length, const uint8_t *state, size_t state_length,
+                              const uint8_t *steps, size_t steps_length, uint8_t *answers, size_t answers_length,
+                              uint8_t *next, size_t next_length, struct pitch_gate_report *report);
+
+/* Writes the fresh state, `(now 0)`. Refused: 18 where the space is shorter than PITCH_GATE_FRESH_MOST bytes. */
+uint64_t pitch_gate_fresh_state(uint8_t *state, size_t state_length, struct pitch_gate_report *report);
+
+/* Reads a rule list. Refused: 10 to 14 with the first bad line. */
+uint64_t pitch_gate_check_rules(const uint8_t *rules, size_t rules_length, struct pitch_gate_report *report);
+
+/* Reads a rule list and writes it again: the same bytes. Refused: what pitch_gate_check_rules refuses; then 18 where the space
+ * is shorter than the list. */
+uint64_t pitch_gate_copy_rules(const uint8_t *rules, size_t rules_length, uint8_t *copy, size_t copy_length,
+                               struct pitch_gate_report *report);
+
+/* Reads a rule list and a saved state under it. Refused, in this order: 10 to 14 of the rules; 10, 11, 15 or 16 of the saved
+ * state with its first bad line; 17 with the lowest rule that the state breaks. */
+uint64_t pitch_gate_check_state(const uint8_t *rules, size_t rules_length, const uint8_t *state, size_t state_length,
+                                struct pitch_gate_report *report);
+
+/* Reads as pitch_gate_check_state, then writes the state that was read: the same bytes. Refused: what pitch_gate_check_state
+ * refuses; then 18 where the space is shorter than the saved state. */
+uint64_t pitch_gate_copy_state(const uint8_t *rules, size_t rules_length, const uint8_t *state, size_t state_length,
+                               uint8_t *copy, size_t copy_length, struct pitch_gate_report *report);
 
 /* The program `gate` as a function. Reads rules, `(steps)` and steps, runs the steps from a fresh state and writes what the
  * program prints: an answer line for each step, or only `(bad number line)`. A bad input is no refusal of the call: its line
  * is the output; so is `(bad 19 0)` for an input above PITCH_GATE_INPUT_MOST bytes.
- * Returns 0; or 18 where the output is longer than the space (with PITCH_GATE_OUTPUT_MOST bytes never). */
+ * Refused: 18 where the output is longer than the space (with PITCH_GATE_OUTPUT_MOST bytes never). */
 uint64_t pitch_gate_respond(const uint8_t *input, size_t input_length, uint8_t *output, size_t output_length,
-                            uint64_t *report);
-
-/* Reads a rule list. Returns 0 where it is accepted; or 10 to 14 with the first bad line. */
-uint64_t pitch_gate_check_rules(const uint8_t *rules, size_t rules_length, uint64_t *report);
-
-/* Reads a rule list and a saved state under it. Returns 0 where both are accepted; or, in this order, 10 to 14 of the rules;
- * 10, 11, 15 or 16 of the saved state with its first bad line; 17 with the lowest rule that the state breaks. */
-uint64_t pitch_gate_check_state(const uint8_t *rules, size_t rules_length, const uint8_t *state, size_t state_length,
-                                uint64_t *report);
-
-/* Reads as pitch_gate_check_state, then writes the state that was read: the same bytes.
- * Returns 0; or what pitch_gate_check_state returns; then 18 where the space is shorter than the saved state. */
-uint64_t pitch_gate_copy_state(const uint8_t *rules, size_t rules_length, const uint8_t *state, size_t state_length,
-                               uint8_t *copy, size_t copy_length, uint64_t *report);
-
-/* Writes the fresh state, `(now 0)`: 8 bytes. Returns 0; or 18 where the space is shorter. */
-uint64_t pitch_gate_fresh_state(uint8_t *state, size_t state_length, uint64_t *report);
-
-/* Reads a rule list, a saved state and steps, runs the steps from that state, and writes an answer line for each step,
- * `(yes selected ended)` or `(no number rule selected)`, and the saved state after the last.
- * Returns 0; or, in this order, 19 where the steps are above PITCH_GATE_INPUT_MOST bytes; what pitch_gate_check_state
- * returns; 10 of the steps with the first bad line; 18 where the space for the answers is too short (with
- * PITCH_GATE_OUTPUT_MOST bytes never); 18 where the space for the state is (with PITCH_GATE_STATE_MOST bytes never).
- * A step that is answered `no` is no refusal of the call. */
-uint64_t pitch_gate_run_steps(const uint8_t *rules, size_t rules_length, const uint8_t *state, size_t state_length,
-                              const uint8_t *steps, size_t steps_length, uint8_t *answers, size_t answers_length,
-                              uint8_t *next, size_t next_length, uint64_t *report);
+                            struct pitch_gate_report *report);
 
 #ifdef __cplusplus
 }

@@ -1,10 +1,17 @@
-//! Links libpitch_gate.a: from the folder in PITCH_GATE_LIBRARY, else from target/staticlib of the repository.
+//! Links libpitch_gate.a: from the folder in PITCH_GATE_LIBRARY, else from target/staticlib of the repository. The archive has machine
+//! code for x86-64 Linux, so that no other target can be built.
 
 use std::env;
 use std::path::{Path, PathBuf};
 
 fn main() {
     println!("cargo::rerun-if-env-changed=PITCH_GATE_LIBRARY");
+    let of_target = |name: &str| env::var(name).unwrap_or_default();
+    let target = ["ARCH", "OS", "POINTER_WIDTH"].map(|name| of_target(&format!("CARGO_CFG_TARGET_{name}")));
+    if target != ["x86_64", "linux", "64"] {
+        println!("cargo::error=libpitch_gate.a is for x86_64 Linux and links into no program for {}", of_target("TARGET"));
+        return;
+    }
     let folder = library_folder();
     let archive = folder.join("libpitch_gate.a");
     println!("cargo::rerun-if-changed={}", archive.display());

@@ -10,7 +10,8 @@ use borrow.Author.Tests.{eq-eqb, ne-eqb}
 use Rattle.forms.specs.Writing.{writtenOf, lentAfter}
 use Rattle.forms.specs.declared.writing.Written.{Written}
 use Rattle.forms.specs.declared.writing.Written.the-variants.{Length, Refused}
-use Rattle.texts.specs.SavedRuns.{Texts, holding, refusedIn, loadTexts, loadedTexts, rulesIn, refusedReport, writtenReport, lentTo, SavedOutcome, runReport, Ran}
+use Rattle.texts.specs.SavedRuns.{Texts, holding, refusedIn, loadTexts, loadedTexts, rulesIn, refusedReport, writtenReport, lentTo, outputReport, SavedOutcome, runReport, Ran}
+use Rattle.texts.specs.declared.saved_runs.Text.the-variants as Text
 use Rattle.texts.specs.declared.saved_runs.LoadedTexts.{LoadedTexts}
 use Rattle.texts.specs.declared.saved_runs.Report.{Report}
 use Rattle.texts.proofs.SavedRunning.{loaded-refused, loaded-holding}
@@ -25,27 +26,37 @@ given {report} {other} {text} {lent} e t = record { told = told (e .0) t; left =
 
 -- ---- a response
 
-lent-response : (text lent : List ℕ) → lentAfter text lent ≡ lentTo (responseReport (writtenOf text lent)) text lent
-unfolding lentAfter writtenOf lentTo
-lent-response text lent = go (leb (length text) (length lent))
-  where
-    go : (b : Bool)
-        → cond b (text ++ drop (length text) lent) lent
-        ≡ cond (eqb (responseReport (cond b (Length (length text)) (Refused 18)) .number) 0) (text ++ drop (length text) lent) lent
-    go true = refl
-    go false = refl
+module _ (text lent : List ℕ) where
+  report-same : responseReport (writtenOf text lent) (length text) ≡ outputReport text (length lent)
+  unfolding writtenOf outputReport
+  report-same = go (leb (length text) (length lent))
+    where
+      go : (b : Bool) → responseReport (cond b (Length (length text)) (Refused 18)) (length text) ≡ cond b (writtenReport (length text) 0) (refusedReport Text.OutputSpace 18 (length text))
+      go true = refl
+      go false = refl
 
-pub responded : {text lent lent′ : List ℕ} {written : Written} {report : Report} → (written ≡ writtenOf text lent) × (lent′ ≡ lentAfter text lent) → report ≡ responseReport written
-    → {number : ℕ} {numbers numbers′ : List ℕ} → Told report number numbers numbers′ → Given (responseReport (writtenOf text lent)) text lent number numbers lent′ numbers′
-responded {text} {lent} w e t = record { told = told (e ∙ ap responseReport (w .0)) t; left = w .1 ∙ lent-response text lent }
+  lent-response : lentAfter text lent ≡ lentTo (outputReport text (length lent)) text lent
+  unfolding lentAfter lentTo outputReport
+  lent-response = go (leb (length text) (length lent))
+    where
+      go : (b : Bool)
+          → cond b (text ++ drop (length text) lent) lent
+          ≡ cond (eqb (cond b (writtenReport (length text) 0) (refusedReport Text.OutputSpace 18 (length text)) .number) 0) (text ++ drop (length text) lent) lent
+      go true = refl
+      go false = refl
+
+pub responded : {text lent lent′ : List ℕ} {written : Written} {report : Report} → (written ≡ writtenOf text lent) × (lent′ ≡ lentAfter text lent) → report ≡ responseReport written (length text)
+    → {number : ℕ} {numbers numbers′ : List ℕ} → Told report number numbers numbers′ → Given (outputReport text (length lent)) text lent number numbers lent′ numbers′
+responded {text} {lent} w e t =
+    record { told = told (e ∙ ap (λ (x : Written). responseReport x (length text)) (w .0) ∙ report-same text lent) t; left = w .1 ∙ lent-response text lent }
 
 -- ---- two texts
 
-pub texts-told : (rules saved : List ℕ) (read : LoadedTexts) → read ≡ loadedTexts (rulesIn rules) (loadTexts rules saved) → readReport (read .part) (read .number) (read .place) ≡ textsReport (loadTexts rules saved)
+pub texts-told : (rules saved : List ℕ) (read : LoadedTexts) → read ≡ loadedTexts (rulesIn rules) (loadTexts rules saved) → readReport (read .text) (read .number) (read .place) ≡ textsReport (loadTexts rules saved)
 unfolding textsReport
 texts-told rules saved read e = go (read .number) refl
   where
-    go : (n : ℕ) → read .number ≡ n → readReport (read .part) (read .number) (read .place) ≡ textsReport (loadTexts rules saved)
+    go : (n : ℕ) → read .number ≡ n → readReport (read .text) (read .number) (read .place) ≡ textsReport (loadTexts rules saved)
     go zero q = rw (eq-eqb (read .number) 0 q, loaded-holding rules saved read e q .0)
     go (suc n) q =
         let some : read .number ≡ 0 → ⊥ = λ z. omega arith in

@@ -11,24 +11,28 @@ use Rattle.forms.specs.declared.writing.Written.the-variants.{Length, Refused}
 use Rattle.rule_text.specs.Reading.{readLines, loadedOf}
 use Rattle.rule_text.specs.declared.reading.LoadedRules.{LoadedRules}
 use Rattle.texts.specs.SavedRuns.{Texts, holding, refusedIn, refusedReport, writtenReport, lentTo, SavedOutcome, answersOf, stateOf, runReport}
-use Rattle.texts.specs.declared.saved_runs.Part.{Part}
-use Rattle.texts.specs.declared.saved_runs.Part.the-variants as part
+use Rattle.texts.specs.declared.saved_runs.Text.{Text}
+use Rattle.texts.specs.declared.saved_runs.Text.the-variants as Text
 use Rattle.texts.specs.declared.saved_runs.Report.{Report}
+
+-- 1.0.0
+abbrev pub version : ℕ
+version = 10000
 
 -- ---- a report as numbers
 
-unfoldable pub partNumber : Part → ℕ
-partNumber part.Nothing = 0
-partNumber part.Rules = 1
-partNumber part.State = 2
-partNumber part.Steps = 3
-partNumber part.AnswersSpace = 4
-partNumber part.StateSpace = 5
+unfoldable pub textNumber : Text → ℕ
+textNumber Text.None = 0
+textNumber Text.Rules = 1
+textNumber Text.State = 2
+textNumber Text.Steps = 3
+textNumber Text.OutputSpace = 4
+textNumber Text.StateSpace = 5
 
 -- the number is returned, the rest is written to the four lent numbers, from the first on
 pub record Told (report : Report) (number : ℕ) (numbers numbers′ : List ℕ) : Type 0 where
   pub returned : number ≡ report .number
-  pub filled : numbers′ ≡ sets numbers 0 (partNumber (report .part) ∷ report .place ∷ report .answers ∷ report .state ∷ [])
+  pub filled : numbers′ ≡ sets numbers 0 (textNumber (report .text) ∷ report .place ∷ report .output ∷ report .state ∷ [])
 
 -- and a text is in a lent space, or every byte of it is as it was
 pub record Given (report : Report) (text lent : List ℕ) (number : ℕ) (numbers lent′ numbers′ : List ℕ) : Type 0 where
@@ -43,17 +47,17 @@ pub record Handed (outcome : SavedOutcome) (answers next : List ℕ) (number : �
 
 -- ---- what is reported
 
--- a response that was written, or its 18
-abbrev pub responseReport : Written → Report
-responseReport (Length n) = writtenReport n 0
-responseReport (Refused number) = refusedReport part.AnswersSpace number 0
+-- a response that was written, or its 18 with the length that is needed
+abbrev pub responseReport : Written → ℕ → Report
+responseReport (Length n) needed = writtenReport n 0
+responseReport (Refused number) needed = refusedReport Text.OutputSpace number needed
 
 -- a text that was read, or its refusal
-abbrev pub readReport : Part → ℕ → ℕ → Report
+abbrev pub readReport : Text → ℕ → ℕ → Report
 readReport text number place = cond (eqb number 0) (writtenReport 0 0) (refusedReport text number place)
 
 abbrev pub rulesReport : LoadedRules → Report
-rulesReport read = readReport part.Rules (read .number) (read .line)
+rulesReport read = readReport Text.Rules (read .number) (read .line)
 
 unfoldable pub textsReport : Texts → Report
 textsReport (holding list s) = writtenReport 0 0

@@ -1,25 +1,39 @@
 // The gate for a controller: thin C functions on byte slices over the crate `texts`. Each returns the number of the refusal, 0 for none,
-// and fills four lent numbers: which text or space the number is about, its place there, and the bytes of answers and of state written.
+// and fills four lent numbers: which text or space the number is about, its place there, and the bytes of output and of state written.
 // On a refusal every byte of a lent space stays.
 ghost use mathlib.Core.Path.{_≡_};
 ghost use lib.ListN.{length};
-ghost use Rattle.forms.specs.Writing.{writtenOf};
 ghost use Rattle.enforcement.specs.States.{fresh};
 ghost use Rattle.rule_text.specs.Reading.{readLines, loadedOf};
+ghost use Rattle.rule_text.specs.Writing.{textOf};
 ghost use Rattle.state_text.specs.Saving.{savedText};
 ghost use Rattle.texts.specs.Response.{responseOf};
-ghost use Rattle.texts.specs.SavedRuns.{loadTexts, savedReport, stateIn, copyReport, savedOutcome};
-ghost use Rattle.pitch_gate.specs.Reports.{partNumber, Told, Given, Handed, responseReport, readReport, rulesReport, textsReport};
+ghost use Rattle.texts.specs.SavedRuns.{loadTexts, rulesIn, outputReport, rulesCopyReport, savedReport, stateIn, copyReport, savedOutcome};
+ghost use Rattle.pitch_gate.specs.Reports.{version, textNumber, Told, Given, Handed, responseReport, readReport, rulesReport, textsReport};
 use forms::Written;
-use texts::Part;
 use texts::Report;
+use texts::Text;
+
+// 10,000 for each major version, 100 for each minor one and 1 for each correction: this is 1.0.0.
+const VERSION: u64 = 10_000;
+
+// The version of the library that is linked.
+#[no_mangle]
+pub extern "C" fn pitch_gate_version() -> u64
+    ensures { λ r. ⌜ r ≡ version ⌝ }
+{
+    VERSION
+}
 
 // The program `gate` as a function: rules, `(steps)` and steps in, its whole output out.
 #[no_mangle]
 pub extern "C" fn pitch_gate_respond(input: &[u8], output: &mut [u8], report: &mut [u64; 4]) -> u64
-    ensures { λ r. ⌜ Given (responseReport (writtenOf (responseOf (now (input .entry))) (now (output .entry)))) (responseOf (now (input .entry))) (now (output .entry)) r (now (report .entry)) (now (output .exit)) (now (report .exit)) ⌝ }
+    ensures { λ r. ⌜ Given (outputReport (responseOf (now (input .entry))) (length (now (output .entry)))) (responseOf (now (input .entry))) (now (output .entry)) r (now (report .entry)) (now (output .exit)) (now (report .exit)) ⌝ }
 {
-    tell(response_report(texts::respond(input, output)), report)
+    tell(
+        response_report(texts::respond(input, output), input),
+        report,
+    )
 }
 
 // A rule list: 0, or 10 to 14 with the line.
@@ -28,7 +42,15 @@ pub extern "C" fn pitch_gate_check_rules(rules: &[u8], report: &mut [u64; 4]) ->
     ensures { λ r. ⌜ Told (rulesReport (loadedOf (readLines (now (rules .entry))))) r (now (report .entry)) (now (report .exit)) ⌝ }
 {
     let read = rule_text::read_rules(rules);
-    tell(read_report(Part::Rules, read.number, read.line), report)
+    tell(read_report(Text::Rules, read.number, read.line), report)
+}
+
+// A rule list, read and written again.
+#[no_mangle]
+pub extern "C" fn pitch_gate_copy_rules(rules: &[u8], copy: &mut [u8], report: &mut [u64; 4]) -> u64
+    ensures { λ r. ⌜ Given (rulesCopyReport (loadedOf (readLines (now (rules .entry)))) (length (now (copy .entry)))) (textOf (rulesIn (now (rules .entry)))) (now (copy .entry)) r (now (report .entry)) (now (copy .exit)) (now (report .exit)) ⌝ }
+{
+    tell(texts::copy_rules(rules, copy), report)
 }
 
 // A rule list, then a saved state under it: 0, or the text that is refused.
@@ -37,8 +59,8 @@ pub extern "C" fn pitch_gate_check_state(rules: &[u8], state: &[u8], report: &mu
     ensures { λ r. ⌜ Told (textsReport (loadTexts (now (rules .entry)) (now (state .entry)))) r (now (report .entry)) (now (report .exit)) ⌝ }
 {
     let read = texts::load(rules, state);
-    let part = read.part;
-    tell(read_report(part, read.number, read.place), report)
+    let text = read.text;
+    tell(read_report(text, read.number, read.place), report)
 }
 
 // A saved state, read under the rules and written again.
@@ -79,45 +101,48 @@ pub extern "C" fn pitch_gate_run_steps(
 
 // ---- reports
 
-fn response_report(written: Written) -> Report
-    ensures { λ r. ⌜ r ≡ responseReport written ⌝ }
+// What was written of the response to an input, or its 18 with the length that is needed.
+fn response_report(written: Written, input: &[u8]) -> Report
+    ensures { λ r. ⌜ r ≡ responseReport written (length (responseOf (now (input .entry)))) ⌝ }
 {
     match written {
         Written::Length(length) => texts::written_report(length, 0),
-        Written::Refused(number) => texts::refused_report(Part::AnswersSpace, number, 0),
+        Written::Refused(number) => {
+            texts::refused_report(Text::OutputSpace, number, texts::response_length(input))
+        }
     }
 }
 
-fn read_report(part: Part, number: u64, place: usize) -> Report
-    ensures { λ r. ⌜ r ≡ readReport part number place ⌝ }
+fn read_report(text: Text, number: u64, place: usize) -> Report
+    ensures { λ r. ⌜ r ≡ readReport text number place ⌝ }
 {
     if number == 0 {
         return texts::written_report(0, 0);
     }
-    texts::refused_report(part, number, place)
+    texts::refused_report(text, number, place)
 }
 
 // The number is returned, the rest goes to the four lent numbers.
 fn tell(told: Report, report: &mut [u64; 4]) -> u64
     ensures { λ r. ⌜ Told told r (now (report .entry)) (now (report .exit)) ⌝ }
 {
-    let part = told.part;
-    report[0] = part_number(part);
+    let text = told.text;
+    report[0] = text_number(text);
     report[1] = told.place as u64;
-    report[2] = told.answers as u64;
+    report[2] = told.output as u64;
     report[3] = told.state as u64;
     told.number
 }
 
-fn part_number(part: Part) -> u64
-    ensures { λ r. ⌜ r ≡ partNumber part ⌝ }
+fn text_number(text: Text) -> u64
+    ensures { λ r. ⌜ r ≡ textNumber text ⌝ }
 {
-    match part {
-        Part::Nothing => 0,
-        Part::Rules => 1,
-        Part::State => 2,
-        Part::Steps => 3,
-        Part::AnswersSpace => 4,
-        Part::StateSpace => 5,
+    match text {
+        Text::None => 0,
+        Text::Rules => 1,
+        Text::State => 2,
+        Text::Steps => 3,
+        Text::OutputSpace => 4,
+        Text::StateSpace => 5,
     }
 }

@@ -1,5 +1,5 @@
 -- A state handed over: steps run at one end, the state written, and more steps run at the other end from what was written, are one run
--- over all of them. And a copy of a saved state is the same bytes.
+-- over all of them. And a copy of a saved state or of a rule list is the same bytes.
 -- Assumes nothing.
 use mathlib.Core.Path.{_≡_, refl, sym, ap, _∙_, subst}
 use mathlib.Core.Bool.{Bool, true, false, cond}
@@ -20,6 +20,8 @@ use Rattle.enforcement.specs.declared.states.Next.{Next}
 use Rattle.enforcement.proofs.Callers.{run-append}
 use Rattle.enforcement.proofs.Reaching.{Good, reached-good}
 use Rattle.rule_text.specs.Reading as ruleText
+use Rattle.rule_text.specs.Writing.{textOf}
+use Rattle.rule_text.proofs.Loaded.{loaded-list}
 use Rattle.rule_text.proofs.Back as ruleBack
 use Rattle.state_text.specs.Reading.{Loading, loaded, refused, readState}
 use Rattle.state_text.specs.Saving.{savedText}
@@ -29,7 +31,7 @@ use Rattle.step_text.specs.Lines.{StepsRead, steps, bad, readSteps}
 use Rattle.step_text.specs.Answers.{answerText, answersText}
 use Rattle.step_text.proofs.Causes.{steps-joined}
 use Rattle.texts.specs.SavedRuns.{Texts, holding, refusedIn, stateUnder, rulesFirst, loadTexts, rulesIn, stateIn, SavedOutcome, ranFrom, refusedAt, stepsUnder, stepsAfter, savedOutcome, answersOf, stateOf}
-use Rattle.texts.specs.declared.saved_runs.Part.the-variants as part
+use Rattle.texts.specs.declared.saved_runs.Text.the-variants as Text
 use Rattle.texts.proofs.SavedRunning.{texts-held}
 
 -- ---- what was held
@@ -45,7 +47,7 @@ module _ (rules saved : List ℕ) where
   held list s h = by-rules (eqb (ruleText.loadedOf (ruleText.readLines rules) .number) 0) refl (readState (rulesIn rules) saved) refl h
     where
       by-rules : (b : Bool) → eqb (ruleText.loadedOf (ruleText.readLines rules) .number) 0 ≡ b → (l : Loading) → readState (rulesIn rules) saved ≡ l
-          → cond b (stateUnder (rulesIn rules) l) (refusedIn part.Rules (ruleText.loadedOf (ruleText.readLines rules) .number) (ruleText.loadedOf (ruleText.readLines rules) .line)) ≡ holding list s
+          → cond b (stateUnder (rulesIn rules) l) (refusedIn Text.Rules (ruleText.loadedOf (ruleText.readLines rules) .number) (ruleText.loadedOf (ruleText.readLines rules) .line)) ≡ holding list s
           → Held rules saved list s
       by-rules true e (loaded x) q h = record { rulesRead = e; sameList = cc; stateRead = q ∙ ap loaded cc }
       by-rules true e (refused number place) q h = unequal cc
@@ -59,6 +61,10 @@ module _ (rules saved : List ℕ) where
 pub copied-same : (rules saved : List ℕ) (list : RuleList) (s : State) → loadTexts rules saved ≡ holding list s → stateIn (loadTexts rules saved) ≡ saved
 unfolding stateIn
 copied-same rules saved list s h = rw h (write-back (rulesIn rules) saved s (held rules saved list s h .stateRead))
+
+-- and so of a rule list
+pub copied-rules-same : (rules : List ℕ) → ruleText.readRules rules .number ≡ 0 → textOf (rulesIn rules) ≡ rules
+copied-rules-same rules h = ruleBack.write-back rules (rulesIn rules) (loaded-list (ruleText.readLines rules) h)
 
 -- ---- what ran
 
@@ -86,7 +92,7 @@ ran-means rules saved text list s given h = by-length (ltb 65536 (length text)) 
     by-texts e (holding l x) t h = by-steps l x t e (readSteps 1 text) refl h
     by-texts e (refusedIn refusedText number place) t h = unequal cc
 
-    by-length : (b : Bool) → ltb 65536 (length text) ≡ b → cond b (refusedAt part.Steps 19 0) (stepsAfter (loadTexts rules saved) text) ≡ ranFrom list s given → RanMeans rules saved text list s given
+    by-length : (b : Bool) → ltb 65536 (length text) ≡ b → cond b (refusedAt Text.Steps 19 0) (stepsAfter (loadTexts rules saved) text) ≡ ranFrom list s given → RanMeans rules saved text list s given
     by-length true e h = unequal cc
     by-length false e h = by-texts (ltb-false 65536 (length text) e) (loadTexts rules saved) refl h
 

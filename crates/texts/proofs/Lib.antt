@@ -1,4 +1,5 @@
 pub mod Responding
+pub mod Copying
 pub mod Measuring
 pub mod Program
 pub mod Causes
@@ -6,3 +7,5 @@ pub mod SavedRunning
 pub mod SavedCauses
 pub mod HandingOver
 pub mod StateSizes
+pub mod Needed
+pub mod RuleSizes

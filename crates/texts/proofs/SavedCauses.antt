@@ -46,8 +46,8 @@ use Rattle.step_text.proofs.Causes.{steps-10}
 use Rattle.step_text.proofs.Sizes.{Sized, sized, answers-short}
 use Rattle.texts.specs.SavedRuns.{holding, refusedIn, stateUnder, rulesFirst, loadTexts, refusedReport, writtenReport, SavedOutcome, ranFrom, refusedAt, stepsUnder, savedOutcome, answersOf, stateOf, fitted, runReport}
 use Rattle.texts.specs.Causes.{RulesThen, StateCause, state-no-form, state-out-of-range, state-out-of-order, state-unrested, state-breaks, TextsHold, RunsSaved, RunWritten, RunRefused, long-steps, bad-rules, bad-state, bad-steps, short-answers, short-state}
-use Rattle.texts.specs.declared.saved_runs.Part.{Part}
-use Rattle.texts.specs.declared.saved_runs.Part.the-variants as part
+use Rattle.texts.specs.declared.saved_runs.Text.{Text}
+use Rattle.texts.specs.declared.saved_runs.Text.the-variants as Text
 use Rattle.texts.specs.declared.saved_runs.Report.{Report}
 use Rattle.texts.proofs.SavedRunning.{too-long, texts-refused, texts-held}
 
@@ -72,7 +72,7 @@ rules-held rules none = go (reads-lines rules .stops)
     go (inr stop) = absurd (omega (arith, loaded-zero (ruleText.readLines rules) none, cause-some (stop .1)))
 
 module _ (rules saved : List ℕ) where
-  load-bad : (number n : ℕ) → 0 < number → rule.FirstBad rules number n → loadTexts rules saved ≡ refusedIn part.Rules number n
+  load-bad : (number n : ℕ) → 0 < number → rule.FirstBad rules number n → loadTexts rules saved ≡ refusedIn Text.Rules number n
   unfolding loadTexts rulesFirst
   load-bad number n some first =
       let answer = first-bad rules number n some .1 first in
@@ -195,7 +195,7 @@ module _ (rules saved text : List ℕ) where
 
       state-say : (l : Loading) → readState (ruleText.listOf read) saved ≡ l → Says (savedOutcome rules saved text)
       state-say (refused number place) e =
-          let there : loadTexts rules saved ≡ refusedIn part.State number place = load-state rules saved read then ∙ ap (stateUnder (ruleText.listOf read)) e ∙ unfold stateUnder in refl in
+          let there : loadTexts rules saved ≡ refusedIn Text.State number place = load-state rules saved read then ∙ ap (stateUnder (ruleText.listOf read)) e ∙ unfold stateUnder in refl in
           subst Says (sym (texts-refused rules saved text short there))
           (λ answersRoom stateRoom. bad-state read number place short then (state-says read (then .few) (then .accepted) saved number place e))
       state-say (loaded s) e =
@@ -234,7 +234,7 @@ module _ (rules saved text : List ℕ) where
   saved-runs list s given = (λ e. subst Says e says, runs)
 
   -- no number is 0
-  refused-some : {answersRoom stateRoom : ℕ} {refusedText : Part} {number place : ℕ} → RunRefused rules saved text answersRoom stateRoom refusedText number place → 0 < number
+  refused-some : {answersRoom stateRoom : ℕ} {refusedText : Text} {number place : ℕ} → RunRefused rules saved text answersRoom stateRoom refusedText number place → 0 < number
   refused-some (long-steps h) = omega arith
   refused-some (bad-rules number n short first) = cause-some (first .cause)
   refused-some (bad-state read number place short then cause) = state-some cause
@@ -246,18 +246,18 @@ module _ (rules saved text : List ℕ) where
     abbrev report : Report
     report = runReport (savedOutcome rules saved text) answersRoom stateRoom
 
-    refused-text : {refusedText : Part} {number place : ℕ} → savedOutcome rules saved text ≡ refusedAt refusedText number place → report ≡ refusedReport refusedText number place
+    refused-text : {refusedText : Text} {number place : ℕ} → savedOutcome rules saved text ≡ refusedAt refusedText number place → report ≡ refusedReport refusedText number place
     refused-text e = ap (λ (o : SavedOutcome). runReport o answersRoom stateRoom) e ∙ unfold runReport in refl
 
     ran-report : {list : RuleList} {s : State} {given : List Step} → RunsSaved rules saved text list s given
         → report ≡ fitted (answersText (runOf list s given)) (savedText (lastState s (runOf list s given))) answersRoom stateRoom
     ran-report r = ap (λ (o : SavedOutcome). runReport o answersRoom stateRoom) (runs r) ∙ unfold runReport answersOf stateOf in refl
 
-    caused : {refusedText : Part} {number place : ℕ} → RunRefused rules saved text answersRoom stateRoom refusedText number place → report ≡ refusedReport refusedText number place
+    caused : {refusedText : Text} {number place : ℕ} → RunRefused rules saved text answersRoom stateRoom refusedText number place → report ≡ refusedReport refusedText number place
     caused (long-steps h) = refused-text (too-long rules saved text h)
     caused (bad-rules number n short first) = refused-text (texts-refused rules saved text short (load-bad rules saved number n (cause-some (first .cause)) first))
     caused (bad-state read number place short then cause) =
-        let there : loadTexts rules saved ≡ refusedIn part.State number place =
+        let there : loadTexts rules saved ≡ refusedIn Text.State number place =
         load-state rules saved read then ∙ ap (stateUnder (ruleText.listOf read)) (state-caused read (then .few) (then .accepted) saved cause) ∙ unfold stateUnder in refl in
         refused-text (texts-refused rules saved text short there)
     caused (bad-steps read s n short holds first) =
@@ -268,7 +268,7 @@ module _ (rules saved text : List ℕ) where
         ran-report r ∙ unfold fitted in rw (le-leb (length (answersText (runOf list s given))) answersRoom fits, lt-leb (length (savedText (lastState s (runOf list s given)))) stateRoom long)
 
     abbrev Reported : Report → Type 0
-    Reported r = RunRefused rules saved text answersRoom stateRoom (r .part) (r .number) (r .place)
+    Reported r = RunRefused rules saved text answersRoom stateRoom (r .text) (r .number) (r .place)
 
     module _ (list : RuleList) (s : State) (given : List Step) (there : RunsSaved rules saved text list s given) where
       abbrev answersLength : ℕ
@@ -278,19 +278,19 @@ module _ (rules saved text : List ℕ) where
       stateLength = length (savedText (lastState s (runOf list s given)))
 
       -- what is reported of a run: a refusal, which leaves no state, or both lengths
-      fitted-says : (r : Report) → cond (leb answersLength answersRoom) (cond (leb stateLength stateRoom) (writtenReport answersLength stateLength) (refusedReport part.StateSpace 18 0)) (refusedReport part.AnswersSpace 18 0) ≡ r
+      fitted-says : (r : Report) → cond (leb answersLength answersRoom) (cond (leb stateLength stateRoom) (writtenReport answersLength stateLength) (refusedReport Text.StateSpace 18 stateLength)) (refusedReport Text.OutputSpace 18 answersLength) ≡ r
           → (Reported r × (r .number ≡ 18)) ⊎ ((answersLength ≤ answersRoom) × (stateLength ≤ stateRoom) × (writtenReport answersLength stateLength ≡ r))
       fitted-says r e = go (leb answersLength answersRoom) refl (leb stateLength stateRoom) refl e
         where
           go : (x : Bool) → leb answersLength answersRoom ≡ x → (y : Bool) → leb stateLength stateRoom ≡ y
-              → cond x (cond y (writtenReport answersLength stateLength) (refusedReport part.StateSpace 18 0)) (refusedReport part.AnswersSpace 18 0) ≡ r
+              → cond x (cond y (writtenReport answersLength stateLength) (refusedReport Text.StateSpace 18 stateLength)) (refusedReport Text.OutputSpace 18 answersLength) ≡ r
               → (Reported r × (r .number ≡ 18)) ⊎ ((answersLength ≤ answersRoom) × (stateLength ≤ stateRoom) × (writtenReport answersLength stateLength ≡ r))
           go false p y q h = inl (subst Reported h (short-answers list s given there (leb-false _ _ p)), ap (λ (x : Report). x .number) (sym h))
           go true p false q h = inl (subst Reported h (short-state list s given there (leb-true _ _ p) (leb-false _ _ q)), ap (λ (x : Report). x .number) (sym h))
           go true p true q h = inr (leb-true _ _ p, leb-true _ _ q, h)
 
     -- which text or space, number and place are reported, is its own cause
-    pub saved-refused : (refusedText : Part) (number place : ℕ)
+    pub saved-refused : (refusedText : Text) (number place : ℕ)
         → (runReport (savedOutcome rules saved text) answersRoom stateRoom ≡ refusedReport refusedText number place) ↔ RunRefused rules saved text answersRoom stateRoom refusedText number place
     unfolding runReport answersOf stateOf fitted
     saved-refused refusedText number place = (go (savedOutcome rules saved text) says, caused)
@@ -313,7 +313,7 @@ module _ (rules saved text : List ℕ) where
         go (ranFrom list s given) said h =
             ⊎-elim (λ refusal. absurd (omega (arith, refusal .1)))
             (λ fits.
-            let same-answers : length (answersText (runOf list s given)) ≡ answers = ap (λ (x : Report). x .answers) (fits .2) in
+            let same-answers : length (answersText (runOf list s given)) ≡ answers = ap (λ (x : Report). x .output) (fits .2) in
             let same-state : length (savedText (lastState s (runOf list s given))) ≡ state = ap (λ (x : Report). x .state) (fits .2) in
             record {
               list = list;
@@ -356,5 +356,5 @@ module _ (rules saved text : List ℕ) where
       go (ranFrom list s given) said = ran-short list s given said
 
   -- so that a space of that size is never refused
-  pub answers-room : (answersRoom stateRoom : ℕ) → 131072 ≤ answersRoom → (number place : ℕ) → RunRefused rules saved text answersRoom stateRoom part.AnswersSpace number place → ⊥
+  pub answers-room : (answersRoom stateRoom : ℕ) → 131072 ≤ answersRoom → (number place : ℕ) → RunRefused rules saved text answersRoom stateRoom Text.OutputSpace number place → ⊥
   answers-room answersRoom stateRoom h number place (short-answers list s given r long) = omega (arith, ran-short list s given r)

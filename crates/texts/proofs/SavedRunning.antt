@@ -2,11 +2,13 @@
 use mathlib.Core.Path.{_≡_, refl, sym, ap, _∙_, subst, subst⁻¹}
 use mathlib.Core.Bool.{Bool, true, false, cond}
 use mathlib.Core.List.{List, [], _∷_, _++_}
+use mathlib.Core.Logic.{⊎-elim}
 use Prim.Native.Nat.{ℕ, zero, suc, _+_, _*_, _≤_, _<_}
 use native.Mathlib.Omega.{arith}
-use lib.ListN.{length, drop}
+use lib.ListN.{length, take, drop}
 use lib.Dec.{eqb, ltb, leb}
 use borrow.Author.Tests.{lt-ltb, le-ltb, le-leb, lt-leb, leb-true, leb-false, eqb-true, eqb-false, eq-eqb, ne-eqb}
+use Rattle.sets.proofs.Booleans.{clash}
 use Rattle.rules.specs.Acceptance.{rulesOf, listAccepted}
 use Rattle.rules.specs.declared.lists.RuleList.{RuleList}
 use Rattle.steps.specs.declared.lowest.Lowest.{Lowest}
@@ -21,12 +23,16 @@ use Rattle.steps.specs.declared.steps.Step.{Step}
 use Rattle.enforcement.specs.declared.states.Next.{Next}
 use Rattle.enforcement.proofs.Reaching.{Good, step-accepted}
 use Rattle.rule_text.specs.Reading as ruleText
+use Rattle.rule_text.specs.Writing.{textOf, writtenRules, lentAfterRules}
 use Rattle.rule_text.specs.declared.reading.LoadedRules.{LoadedRules}
+use Rattle.rule_text.proofs.Loaded.{zero-or-some, loaded-list}
+use Rattle.rule_text.proofs.Back.{write-back, read-accepted}
+use Rattle.rule_text.proofs.Room.{refused-40, refused-18, refused-number, refused-leaves, written-length as written-rules}
 use Rattle.state_text.specs.Reading.{Loading, loaded, refused, unlessBroken, underRules, readLines, readState, loadedOf}
 use Rattle.state_text.specs.Saving.{savedText, writtenState, lentState}
 use Rattle.state_text.specs.declared.reading.LoadedState.{LoadedState}
 use Rattle.state_text.proofs.OwnCauses.{lines-number}
-use Rattle.state_text.proofs.RoundTrips.{read-accepted}
+use Rattle.state_text.proofs.RoundTrips as state
 use Rattle.state_text.proofs.Same.{unequal}
 use Rattle.state_text.proofs.WritingCauses.{written-length, lent-written, lent-refused}
 use Rattle.step_text.specs.Lines.{StepsRead, steps, bad, readSteps, badLine}
@@ -38,9 +44,11 @@ use Rattle.forms.specs.Writing.{lastPlace, Wrote, writtenOf, lentAfter}
 use Rattle.forms.specs.declared.writing.Written.{Written}
 use Rattle.forms.specs.declared.writing.Written.the-variants.{Length, Refused}
 use Rattle.forms.proofs.Puts.{measure, at-front}
-use Rattle.texts.specs.SavedRuns.{Texts, holding, refusedIn, stateUnder, rulesFirst, loadTexts, loadedTexts, rulesIn, refusedReport, writtenReport, lentTo, savedReport, stateIn, copyReport, SavedOutcome, ranFrom, refusedAt, stepsUnder, stepsAfter, savedOutcome, answersOf, stateOf, fitted, runReport, Ran}
-use Rattle.texts.specs.declared.saved_runs.Part.{Part}
-use Rattle.texts.specs.declared.saved_runs.Part.the-variants as part
+use Rattle.forms.proofs.Room.{lent-written as lent-text}
+use Rattle.texts.proofs.Copying.{kept-whole}
+use Rattle.texts.specs.SavedRuns.{Texts, holding, refusedIn, stateUnder, rulesFirst, loadTexts, loadedTexts, rulesIn, refusedReport, writtenReport, lentTo, outputReport, rulesCopyReport, savedReport, stateIn, copyReport, SavedOutcome, ranFrom, refusedAt, stepsUnder, stepsAfter, savedOutcome, answersOf, stateOf, fitted, runReport, Ran}
+use Rattle.texts.specs.declared.saved_runs.Text.{Text}
+use Rattle.texts.specs.declared.saved_runs.Text.the-variants as Text
 use Rattle.texts.specs.declared.saved_runs.LoadedTexts.{LoadedTexts}
 use Rattle.texts.specs.declared.saved_runs.Report.{Report}
 
@@ -68,22 +76,22 @@ state-number list text number place h = by-list (listAccepted list) h
 -- what a state's loading says of the texts
 module _ (list : RuleList) (text : List ℕ) (r : LoadedState) (e : r ≡ loadedOf (readState list text)) where
   pub state-refused : (r .number ≡ 0 → ⊥)
-      → _≡_ {A = LoadedTexts} (record { part = part.State; number = r .number; place = r .place; list = list; state = r .state }) (loadedTexts list (stateUnder list (readState list text)))
+      → _≡_ {A = LoadedTexts} (record { text = Text.State; number = r .number; place = r .place; list = list; state = r .state }) (loadedTexts list (stateUnder list (readState list text)))
   unfolding stateUnder loadedTexts
   state-refused n = go (readState list text) e
     where
       go : (l : Loading) → r ≡ loadedOf l
-          → _≡_ {A = LoadedTexts} (record { part = part.State; number = r .number; place = r .place; list = list; state = r .state }) (loadedTexts list (stateUnder list l))
+          → _≡_ {A = LoadedTexts} (record { text = Text.State; number = r .number; place = r .place; list = list; state = r .state }) (loadedTexts list (stateUnder list l))
       go (loaded s) q = absurd (n (ap (λ (x : LoadedState). x .number) q))
       go (refused number place) q = rw q
 
   pub state-loaded : r .number ≡ 0
-      → _≡_ {A = LoadedTexts} (record { part = part.Nothing; number = 0; place = 0; list = list; state = r .state }) (loadedTexts list (stateUnder list (readState list text)))
+      → _≡_ {A = LoadedTexts} (record { text = Text.None; number = 0; place = 0; list = list; state = r .state }) (loadedTexts list (stateUnder list (readState list text)))
   unfolding stateUnder loadedTexts
   state-loaded z = go (readState list text) refl e
     where
       go : (l : Loading) → readState list text ≡ l → r ≡ loadedOf l
-          → _≡_ {A = LoadedTexts} (record { part = part.Nothing; number = 0; place = 0; list = list; state = r .state }) (loadedTexts list (stateUnder list l))
+          → _≡_ {A = LoadedTexts} (record { text = Text.None; number = 0; place = 0; list = list; state = r .state }) (loadedTexts list (stateUnder list l))
       go (loaded s) p q = rw q
       go (refused number place) p q =
           let same : number ≡ 0 = sym (ap (λ (x : LoadedState). x .number) q) ∙ z in
@@ -92,7 +100,7 @@ module _ (list : RuleList) (text : List ℕ) (r : LoadedState) (e : r ≡ loaded
 -- what the rules' loading says of the texts
 module _ (saved : List ℕ) (r : LoadedRules) where
   first-refused : (r .number ≡ 0 → ⊥)
-      → _≡_ {A = LoadedTexts} (record { part = part.Rules; number = r .number; place = r .line; list = r .list; state = fresh }) (loadedTexts (r .list) (rulesFirst r saved))
+      → _≡_ {A = LoadedTexts} (record { text = Text.Rules; number = r .number; place = r .line; list = r .list; state = fresh }) (loadedTexts (r .list) (rulesFirst r saved))
   unfolding rulesFirst loadedTexts
   first-refused n = rw (ne-eqb (r .number) 0 n)
 
@@ -102,7 +110,7 @@ module _ (saved : List ℕ) (r : LoadedRules) where
 
   module _ (rules : List ℕ) (e : r ≡ ruleText.loadedOf (ruleText.readLines rules)) where
     pub rules-refused : (r .number ≡ 0 → ⊥)
-        → _≡_ {A = LoadedTexts} (record { part = part.Rules; number = r .number; place = r .line; list = r .list; state = fresh }) (loadedTexts (rulesIn rules) (loadTexts rules saved))
+        → _≡_ {A = LoadedTexts} (record { text = Text.Rules; number = r .number; place = r .line; list = r .list; state = fresh }) (loadedTexts (rulesIn rules) (loadTexts rules saved))
     unfolding loadTexts
     rules-refused n = first-refused n ∙ ap (λ (x : LoadedRules). loadedTexts (x .list) (rulesFirst x saved)) e
 
@@ -117,14 +125,14 @@ module _ (rules saved : List ℕ) where
   -- the refusals have numbers above 0, and a state that was read is under the list that was read
   data Loads : Texts → Type 0 where
     isHolding : {s : State} → Good (rulesIn rules) s → Loads (holding (rulesIn rules) s)
-    isRefused : {text : Part} {number place : ℕ} → 0 < number → Loads (refusedIn text number place)
+    isRefused : {text : Text} {number place : ℕ} → 0 < number → Loads (refusedIn text number place)
 
   loads : Loads (loadTexts rules saved)
   unfolding loadTexts rulesFirst
   loads = by-rules (eqb (ruleText.loadedOf (ruleText.readLines rules) .number) 0) refl
     where
       by-state : (l : Loading) → readState (rulesIn rules) saved ≡ l → Loads (stateUnder (rulesIn rules) l)
-      by-state (loaded s) q = unfold stateUnder in isHolding (read-accepted (rulesIn rules) saved s q)
+      by-state (loaded s) q = unfold stateUnder in isHolding (state.read-accepted (rulesIn rules) saved s q)
       by-state (refused number place) q = unfold stateUnder in isRefused (state-number (rulesIn rules) saved number place q)
 
       some : (n : ℕ) → eqb n 0 ≡ false → 0 < n
@@ -132,16 +140,16 @@ module _ (rules saved : List ℕ) where
       some (suc n) e = omega arith
 
       by-rules : (b : Bool) → eqb (ruleText.loadedOf (ruleText.readLines rules) .number) 0 ≡ b
-          → Loads (cond b (stateUnder (rulesIn rules) (readState (rulesIn rules) saved)) (refusedIn part.Rules (ruleText.loadedOf (ruleText.readLines rules) .number) (ruleText.loadedOf (ruleText.readLines rules) .line)))
+          → Loads (cond b (stateUnder (rulesIn rules) (readState (rulesIn rules) saved)) (refusedIn Text.Rules (ruleText.loadedOf (ruleText.readLines rules) .number) (ruleText.loadedOf (ruleText.readLines rules) .line)))
       by-rules true e = by-state (readState (rulesIn rules) saved) refl
       by-rules false e = isRefused (some _ e)
 
   module _ (r : LoadedTexts) (e : r ≡ loadedTexts (rulesIn rules) (loadTexts rules saved)) where
-    pub loaded-refused : (r .number ≡ 0 → ⊥) → (loadTexts rules saved ≡ refusedIn (r .part) (r .number) (r .place)) × (0 < r .number)
+    pub loaded-refused : (r .number ≡ 0 → ⊥) → (loadTexts rules saved ≡ refusedIn (r .text) (r .number) (r .place)) × (0 < r .number)
     unfolding loadedTexts
     loaded-refused n = go (loadTexts rules saved) loads e
       where
-        go : (t : Texts) → Loads t → r ≡ loadedTexts (rulesIn rules) t → (t ≡ refusedIn (r .part) (r .number) (r .place)) × (0 < r .number)
+        go : (t : Texts) → Loads t → r ≡ loadedTexts (rulesIn rules) t → (t ≡ refusedIn (r .text) (r .number) (r .place)) × (0 < r .number)
         go (holding list s) h q = absurd (n (ap (λ (x : LoadedTexts). x .number) q))
         go (refusedIn text number place) (isRefused some) q = (rw q, rw q some)
 
@@ -165,7 +173,7 @@ written-lent : (r : Report) (text lent lent′ : List ℕ) → r .number ≡ 0 �
 unfolding lentTo
 written-lent r text lent lent′ z e = e ∙ rw (eq-eqb (r .number) 0 z)
 
-pub refused-ran : {outcome : SavedOutcome} {text : Part} {number place : ℕ} {r : Report} → outcome ≡ refusedAt text number place → 0 < number → r ≡ refusedReport text number place
+pub refused-ran : {outcome : SavedOutcome} {text : Text} {number place : ℕ} {r : Report} → outcome ≡ refusedAt text number place → 0 < number → r ≡ refusedReport text number place
     → (answers next : List ℕ) → Ran outcome answers next r answers next
 unfolding runReport
 refused-ran {outcome} {text} {number} {place} {r} o some e answers next =
@@ -183,7 +191,7 @@ like-ran {outcome} {other} {answers} {next} {r} {answers′} {next′} e v = sub
 -- ---- steps over texts that were loaded
 
 module _ (rules saved text : List ℕ) where
-  pub too-long : 65536 < length text → savedOutcome rules saved text ≡ refusedAt part.Steps 19 0
+  pub too-long : 65536 < length text → savedOutcome rules saved text ≡ refusedAt Text.Steps 19 0
   unfolding savedOutcome
   too-long h = rw (lt-ltb 65536 (length text) h)
 
@@ -192,17 +200,17 @@ module _ (rules saved text : List ℕ) where
     unfolding savedOutcome
     short = rw (le-ltb 65536 (length text) h)
 
-    pub texts-refused : {refusedText : Part} {number place : ℕ} → loadTexts rules saved ≡ refusedIn refusedText number place → savedOutcome rules saved text ≡ refusedAt refusedText number place
+    pub texts-refused : {refusedText : Text} {number place : ℕ} → loadTexts rules saved ≡ refusedIn refusedText number place → savedOutcome rules saved text ≡ refusedAt refusedText number place
     texts-refused e = short ∙ ap (λ (t : Texts). stepsAfter t text) e ∙ unfold stepsAfter in refl
 
     pub texts-held : {list : RuleList} {s : State} → loadTexts rules saved ≡ holding list s → savedOutcome rules saved text ≡ stepsUnder list s (readSteps 1 text)
     texts-held e = short ∙ ap (λ (t : Texts). stepsAfter t text) e ∙ unfold stepsAfter in refl
 
-pub steps-refused : (list : RuleList) (s : State) (text : List ℕ) (b : ℕ) → b ≡ badLine (readSteps 1 text) → (b ≡ 0 → ⊥) → stepsUnder list s (readSteps 1 text) ≡ refusedAt part.Steps 10 b
+pub steps-refused : (list : RuleList) (s : State) (text : List ℕ) (b : ℕ) → b ≡ badLine (readSteps 1 text) → (b ≡ 0 → ⊥) → stepsUnder list s (readSteps 1 text) ≡ refusedAt Text.Steps 10 b
 unfolding stepsUnder
 steps-refused list s text b e n = go (readSteps 1 text) e
   where
-    go : (r : StepsRead) → b ≡ badLine r → stepsUnder list s r ≡ refusedAt part.Steps 10 b
+    go : (r : StepsRead) → b ≡ badLine r → stepsUnder list s r ≡ refusedAt Text.Steps 10 b
     go (steps read) q = absurd (n q)
     go (bad k) q = rw q
 
@@ -218,11 +226,11 @@ refused-short s lent number accepted h = go (leb (length (savedText s)) (length 
 -- ---- a state's text into a lent space
 
 module _ (s : State) (accepted : stateAccepted s ≡ true) (lent : List ℕ) {lent′ : List ℕ} (left : lent′ ≡ lentState s lent) {r : Report} where
-  pub saved-refused : (number : ℕ) → Refused number ≡ writtenState s lent → r ≡ refusedReport part.StateSpace 18 0
+  pub saved-refused : (number : ℕ) → Refused number ≡ writtenState s lent → {needed : ℕ} → needed ≡ length (savedText s) → r ≡ refusedReport Text.StateSpace 18 needed
       → (r ≡ savedReport (savedText s) (length lent)) × (lent′ ≡ lentTo r (savedText s) lent)
   unfolding savedReport
-  saved-refused number f e = (
-    e ∙ rw (lt-leb (length (savedText s)) (length lent) (refused-short s lent number accepted (sym f))),
+  saved-refused number f measured e = (
+    e ∙ rw (lt-leb (length (savedText s)) (length lent) (refused-short s lent number accepted (sym f)), measured),
     left ∙ lent-refused s lent number (sym f) ∙ refused-lent r (savedText s) lent (rw e (omega arith)),
   )
 
@@ -240,10 +248,60 @@ pub copied : {t : Texts} {list : RuleList} {s : State} (lent : List ℕ) {lent�
 unfolding copyReport stateIn
 copied lent e h = rw e h
 
-pub uncopied : {t : Texts} {text : Part} {number place : ℕ} (lent : List ℕ) {r : Report} → (t ≡ refusedIn text number place) × (0 < number) → r ≡ refusedReport text number place
+pub uncopied : {t : Texts} {text : Text} {number place : ℕ} (lent : List ℕ) {r : Report} → (t ≡ refusedIn text number place) × (0 < number) → r ≡ refusedReport text number place
     → (r ≡ copyReport t (length lent)) × (lent ≡ lentTo r (stateIn t) lent)
 unfolding copyReport
 uncopied {t} {text} {number} {place} lent {r} h e = (e ∙ rw (h .0), refused-lent r (stateIn t) lent (rw e (h .1)))
+
+-- ---- a rule list copied
+
+module _ (rules : List ℕ) (read : LoadedRules) (e : read ≡ ruleText.loadedOf (ruleText.readLines rules)) (lent : List ℕ) where
+  abbrev RulesCopied : Report → List ℕ → Type 0
+  RulesCopied r lent′ = (r ≡ rulesCopyReport (ruleText.loadedOf (ruleText.readLines rules)) (length lent)) × (lent′ ≡ lentTo r (textOf (rulesIn rules)) lent)
+
+  pub rules-uncopied : (read .number ≡ 0 → ⊥) → {r : Report} → r ≡ refusedReport Text.Rules (read .number) (read .line) → RulesCopied r lent
+  unfolding rulesCopyReport
+  rules-uncopied n {r} q =
+      let some : 0 < read .number = ⊎-elim (λ z. absurd (n z)) (λ more. more) (zero-or-some (read .number)) in
+      (q ∙ rw (← e, ne-eqb (read .number) 0 n), refused-lent r (textOf (rulesIn rules)) lent (rw q some))
+
+  module _ (z : read .number ≡ 0) {lent′ : List ℕ} (left : lent′ ≡ lentAfterRules (read .list) lent) where
+    zero-read : ruleText.loadedOf (ruleText.readLines rules) .number ≡ 0
+    zero-read = sym (ap (λ (l : LoadedRules). l .number) e) ∙ z
+
+    as-output : rulesCopyReport (ruleText.loadedOf (ruleText.readLines rules)) (length lent) ≡ outputReport (textOf (rulesIn rules)) (length lent)
+    unfolding rulesCopyReport
+    as-output = rw (eq-eqb (ruleText.loadedOf (ruleText.readLines rules) .number) 0 zero-read)
+
+    there : {w : Written} → w ≡ writtenRules (read .list) lent → writtenRules (rulesIn rules) lent ≡ w
+    there f = sym (f ∙ ap (λ (l : LoadedRules). writtenRules (l .list) lent) e)
+
+    -- the copy has no room, and needs as many bytes as the list that was read
+    pub rules-short : (number : ℕ) → Refused number ≡ writtenRules (read .list) lent → {r : Report} → r ≡ refusedReport Text.OutputSpace 18 (length rules) → RulesCopied r lent′
+    unfolding outputReport
+    rules-short number f {r} q =
+        let short : length lent < length (textOf (rulesIn rules)) =
+        ⊎-elim (λ forty. clash (read-accepted rules) (refused-40 (rulesIn rules) lent .0 (there f ∙ ap Refused forty)))
+        (λ eighteen. refused-18 (rulesIn rules) lent .0 (there f ∙ ap Refused eighteen) .1)
+        (refused-number (rulesIn rules) lent number (there f)) in
+        let whole : textOf (rulesIn rules) ≡ rules = write-back rules (rulesIn rules) (loaded-list (ruleText.readLines rules) zero-read) in
+        let kept : lent′ ≡ lent = left ∙ ap (λ (l : LoadedRules). lentAfterRules (l .list) lent) e ∙ refused-leaves (rulesIn rules) lent number (there f) in (
+          q ∙ ap (λ (n : ℕ). refusedReport Text.OutputSpace 18 n) (ap length (sym whole)) ∙ sym (as-output ∙ rw (lt-leb (length (textOf (rulesIn rules))) (length lent) short)),
+          kept ∙ refused-lent r (textOf (rulesIn rules)) lent (rw q (omega arith)),
+        )
+
+    lent-rules : (n : ℕ) → writtenRules (rulesIn rules) lent ≡ Length n → lentAfterRules (rulesIn rules) lent ≡ textOf (rulesIn rules) ++ drop n lent
+    unfolding writtenRules lentAfterRules
+    lent-rules n h = lent-text (textOf (rulesIn rules)) lent (listAccepted (rulesIn rules)) n h
+
+    pub rules-copied : (n : ℕ) → Length n ≡ writtenRules (read .list) lent → {r : Report} → r ≡ writtenReport n 0 → RulesCopied r lent′
+    unfolding outputReport
+    rules-copied n f {r} q =
+        let fits = written-rules (rulesIn rules) lent n .0 (there f) in (
+          q ∙ ap (λ (m : ℕ). writtenReport m 0) (fits .2) ∙ sym (as-output ∙ rw (le-leb (length (textOf (rulesIn rules))) (length lent) (fits .1))),
+          written-lent r (textOf (rulesIn rules)) lent lent′ (rw q)
+              (left ∙ ap (λ (l : LoadedRules). lentAfterRules (l .list) lent) e ∙ lent-rules n (there f) ∙ ap (λ (m : ℕ). textOf (rulesIn rules) ++ drop m lent) (fits .2)),
+        )
 
 -- ---- the steps run
 
@@ -288,6 +346,10 @@ module _ (list : RuleList) (s : State) (text : List ℕ) (h : length text ≤ 65
   answers-few : length answersThere ≤ 131072
   answers-few = rw (all .run) (all .few)
 
+  -- a space that has room for the answers keeps them
+  pub kept-answers : {k k′ : List ℕ} {place : ℕ} → Wrote k 0 answersThere place k′ → place ≤ length k′ → take place k′ ≡ answersThere
+  kept-answers w h = kept-whole (omega (arith, answers-few)) w h
+
   module _ (answers next : List ℕ) where
     ran : {r : Report} {answers′ next′ : List ℕ} → r ≡ fitted answersThere (savedText last) (length answers) (length next) → answers′ ≡ lentTo r answersThere answers → next′ ≡ lentTo r (savedText last) next
         → Ran outcome answers next r answers′ next′
@@ -300,28 +362,29 @@ module _ (list : RuleList) (s : State) (text : List ℕ) (h : length text ≤ 65
         }
 
     -- the answers have no room
-    pub no-room : {k k′ : List ℕ} {place : ℕ} → Wrote k 0 answersThere place k′ → length answers < place → {r : Report} → r ≡ refusedReport part.AnswersSpace 18 0
+    pub no-room : {k k′ : List ℕ} {place : ℕ} → Wrote k 0 answersThere place k′ → length answers < place → {r : Report} → r ≡ refusedReport Text.OutputSpace 18 place
         → Ran outcome answers next r answers next
     unfolding fitted
-    no-room w few {r} e =
-        let long : length answers < length answersThere = omega (arith, measure (omega (arith, answers-few)) w) in
+    no-room {place = place} w few {r} e =
+        let needed : place ≡ length answersThere = measure (omega (arith, answers-few)) w in
+        let long : length answers < length answersThere = omega (arith, needed) in
         let above : 0 < r .number = rw e (omega arith) in
-        ran (e ∙ rw (lt-leb (length answersThere) (length answers) long)) (refused-lent r answersThere answers above) (refused-lent r (savedText last) next above)
+        ran (e ∙ rw (lt-leb (length answersThere) (length answers) long, needed)) (refused-lent r answersThere answers above) (refused-lent r (savedText last) next above)
 
     module _ {k k′ : List ℕ} {place : ℕ} (w : Wrote k 0 answersThere place k′) (enough : place ≤ length answers) (s′ : State) (same : s′ ≡ last) where
       room : length answersThere ≤ length answers
       room = omega (arith, measure (omega (arith, answers-few)) w)
 
       -- the state has no room
-      pub no-state-room : {next′ : List ℕ} (number : ℕ) → Refused number ≡ writtenState s′ next → next′ ≡ lentState s′ next → {r : Report} → r ≡ refusedReport part.StateSpace 18 0
-          → Ran outcome answers next r answers next′
+      pub no-state-room : {next′ : List ℕ} (number : ℕ) → Refused number ≡ writtenState s′ next → next′ ≡ lentState s′ next → {needed : ℕ} → needed ≡ length (savedText s′)
+          → {r : Report} → r ≡ refusedReport Text.StateSpace 18 needed → Ran outcome answers next r answers next′
       unfolding fitted
-      no-state-room {next′} number f n {r} e =
+      no-state-room {next′} number f n measured {r} e =
           let above : 0 < r .number = rw e (omega arith) in
           let unwritten = sym (f ∙ ap (λ (x : State). writtenState x next) same) in
           let kept : next ≡ next′ = sym (n ∙ ap (λ (x : State). lentState x next) same ∙ lent-refused last next number unwritten) in
           ran
-          (e ∙ rw (le-leb (length answersThere) (length answers) room, lt-leb (length (savedText last)) (length next) (refused-short last next number last-good unwritten)))
+          (e ∙ rw (le-leb (length answersThere) (length answers) room, lt-leb (length (savedText last)) (length next) (refused-short last next number last-good unwritten), measured, same))
           (refused-lent r answersThere answers above)
           (sym kept ∙ refused-lent r (savedText last) next above)
 

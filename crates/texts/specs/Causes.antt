@@ -26,8 +26,8 @@ use Rattle.state_text.specs.Causes.{NoForm, OutOfRange, OutOfOrder, Unrested, B
 use Rattle.step_text.specs.Lines.{steps, readSteps}
 use Rattle.step_text.specs.Answers.{answersText}
 use Rattle.step_text.specs.Causes as step
-use Rattle.texts.specs.declared.saved_runs.Part.{Part}
-use Rattle.texts.specs.declared.saved_runs.Part.the-variants as part
+use Rattle.texts.specs.declared.saved_runs.Text.{Text}
+use Rattle.texts.specs.declared.saved_runs.Text.the-variants as Text
 
 -- accepted rules, "numbered from 1 by ones", and what follows them
 pub record RulesThen (text : List ℕ) (rules : List Rule) (rest : List ℕ) : Type 0 where
@@ -85,21 +85,22 @@ pub record RunsSaved (rules saved text : List ℕ) (list : RuleList) (s : State)
   pub same : list ≡ listOf read
   pub all-steps : readSteps 1 text ≡ steps given
 
--- which text or space is refused, by which number, at which place (a line, for 17 a rule)
-pub data RunRefused (rules saved text : List ℕ) (answersRoom stateRoom : ℕ) : Part → ℕ → ℕ → Type 0 where
+-- which text or space is refused, by which number, at which place (a line, for 17 a rule, for 18 the length that is needed)
+pub data RunRefused (rules saved text : List ℕ) (answersRoom stateRoom : ℕ) : Text → ℕ → ℕ → Type 0 where
   -- the steps are held to the program's length: "19 has line 0 and comes before all else"
-  long-steps : 65536 < length text → RunRefused rules saved text answersRoom stateRoom part.Steps 19 0
-  bad-rules : (number n : ℕ) → length text ≤ 65536 → rule.FirstBad rules number n → RunRefused rules saved text answersRoom stateRoom part.Rules number n
+  long-steps : 65536 < length text → RunRefused rules saved text answersRoom stateRoom Text.Steps 19 0
+  bad-rules : (number n : ℕ) → length text ≤ 65536 → rule.FirstBad rules number n → RunRefused rules saved text answersRoom stateRoom Text.Rules number n
   bad-state : (read : List Rule) (number place : ℕ) → length text ≤ 65536 → RulesThen rules read [] → StateCause read saved number place
-      → RunRefused rules saved text answersRoom stateRoom part.State number place
+      → RunRefused rules saved text answersRoom stateRoom Text.State number place
   bad-steps : (read : List Rule) (s : State) (n : ℕ) → length text ≤ 65536 → TextsHold rules saved read s → step.FirstBadStep 1 text n
-      → RunRefused rules saved text answersRoom stateRoom part.Steps 10 n
+      → RunRefused rules saved text answersRoom stateRoom Text.Steps 10 n
   -- "lent space shorter than the text or answers"; the answers' space comes first
   short-answers : (list : RuleList) (s : State) (given : List Step) → RunsSaved rules saved text list s given
-      → answersRoom < length (answersText (runOf list s given)) → RunRefused rules saved text answersRoom stateRoom part.AnswersSpace 18 0
+      → answersRoom < length (answersText (runOf list s given))
+      → RunRefused rules saved text answersRoom stateRoom Text.OutputSpace 18 (length (answersText (runOf list s given)))
   short-state : (list : RuleList) (s : State) (given : List Step) → RunsSaved rules saved text list s given
       → length (answersText (runOf list s given)) ≤ answersRoom → stateRoom < length (savedText (lastState s (runOf list s given)))
-      → RunRefused rules saved text answersRoom stateRoom part.StateSpace 18 0
+      → RunRefused rules saved text answersRoom stateRoom Text.StateSpace 18 (length (savedText (lastState s (runOf list s given))))
 
 -- and nothing is: the steps run, and the answers and the state after the last step fit their spaces
 pub record RunWritten (rules saved text : List ℕ) (answersRoom stateRoom answers state : ℕ) : Type 0 where

@@ -1,8 +1,14 @@
--- The state with the longest text: that no other has a longer one is proved in proofs/StateSizes.antt. Assumes nothing.
+-- The state and the rule list with the longest texts: that no other has a longer one is proved in proofs/StateSizes.antt and
+-- proofs/RuleSizes.antt. Assumes nothing.
 use mathlib.Core.Bool.{true}
+use mathlib.Core.List.{List}
 use lib.ListN.{replicate}
 use lib.IntN.{negsuc}
 use Rattle.places.specs.declared.Position.the-variants.{Known}
+use Rattle.places.specs.declared.Shape.the-variants.{Box}
+use Rattle.places.specs.declared.Side.the-variants.{Outside}
+use Rattle.rules.specs.declared.families.Rule.{Rule}
+use Rattle.rules.specs.declared.families.Rule.the-variants.{LocationContext}
 use Rattle.rules.specs.declared.sessions.Session.{Session}
 use Rattle.enforcement.specs.declared.states.State.{State}
 
@@ -21,3 +27,10 @@ fullest =
       active = replicate 32 4294967295;
       history = replicate 1024 18446744073709551615;
     }
+
+-- outside of a box at the same corner
+abbrev pub longestRule : Rule
+longestRule = LocationContext 31 (Outside (Box (negsuc 999999) (negsuc 999999) (negsuc 999999) (negsuc 999999)))
+
+unfoldable pub longestRules : List Rule
+longestRules = replicate 128 longestRule

@@ -38,9 +38,15 @@ fn fits(input: &[u8], room: usize) -> bool
     if ROOM <= room {
         return true;
     }
+    response_length(input) <= room
+}
+
+// The bytes of the response.
+pub fn response_length(input: &[u8]) -> usize
+    ensures { λ r. ⌜ r ≡ length (responseOf (now (input .entry))) ⌝ }
+{
     let mut scratch = [0u8; 1];
-    let need = put_response(input, &mut scratch, 0);
-    need <= room
+    put_response(input, &mut scratch, 0)
 }
 
 // The response from place `at` on; where it ends. Bytes past the list's end are left out.

@@ -2,55 +2,62 @@
 
 use crate::refusal::{Refusal, Text};
 
-/// Text, place, bytes of answers, bytes of saved state: the entries of `enum pitch_gate_report`.
-pub struct Report([u64; 4]);
+/// `struct pitch_gate_report`.
+#[repr(C)]
+#[derive(Default)]
+pub struct Report {
+    text: u64,
+    place: u64,
+    output: u64,
+    state: u64,
+}
 
 impl Report {
-    pub const EMPTY: Report = Report([0; 4]);
-
-    pub fn as_mut_ptr(&mut self) -> *mut u64 {
-        self.0.as_mut_ptr()
-    }
-
     /// The call's refusal, from the number that it returned.
     pub fn refused(&self, number: u64) -> Result<(), Refusal> {
-        let [text, place, ..] = self.0;
         match number {
             0 => Ok(()),
-            _ => Err(Refusal { number, text: Text::of_report(text), place }),
+            _ => Err(Refusal { number, text: Text::of_report(self.text), place: self.place }),
         }
     }
 
-    pub fn answers(&self) -> usize {
-        length(self.0[2])
+    /// Bytes of a text that was written to a slice: a `usize`.
+    pub fn output(&self) -> usize {
+        self.output as usize
     }
 
     pub fn state(&self) -> usize {
-        length(self.0[3])
+        self.state as usize
     }
 }
 
-fn length(bytes: u64) -> usize {
-    usize::try_from(bytes).expect("a text is no longer than the space that it was written to")
-}
-
 extern "C" {
+    pub fn pitch_gate_version() -> u64;
+
     pub fn pitch_gate_respond(
         input: *const u8,
         input_length: usize,
         output: *mut u8,
         output_length: usize,
-        report: *mut u64,
+        report: *mut Report,
     ) -> u64;
 
-    pub fn pitch_gate_check_rules(rules: *const u8, rules_length: usize, report: *mut u64) -> u64;
+    pub fn pitch_gate_check_rules(rules: *const u8, rules_length: usize, report: *mut Report) -> u64;
+
+    pub fn pitch_gate_copy_rules(
+        rules: *const u8,
+        rules_length: usize,
+        copy: *mut u8,
+        copy_length: usize,
+        report: *mut Report,
+    ) -> u64;
 
     pub fn pitch_gate_check_state(
         rules: *const u8,
         rules_length: usize,
         state: *const u8,
         state_length: usize,
-        report: *mut u64,
+        report: *mut Report,
     ) -> u64;
 
     pub fn pitch_gate_copy_state(
@@ -60,10 +67,10 @@ extern "C" {
         state_length: usize,
         copy: *mut u8,
         copy_length: usize,
-        report: *mut u64,
+        report: *mut Report,
     ) -> u64;
 
-    pub fn pitch_gate_fresh_state(state: *mut u8, state_length: usize, report: *mut u64) -> u64;
+    pub fn pitch_gate_fresh_state(state: *mut u8, state_length: usize, report: *mut Report) -> u64;
 
     pub fn pitch_gate_run_steps(
         rules: *const u8,
@@ -76,6 +83,6 @@ extern "C" {
         answers_length: usize,
         next: *mut u8,
         next_length: usize,
-        report: *mut u64,
+        report: *mut Report,
     ) -> u64;
 }

@@ -1,28 +1,32 @@
-//! A refusal of a call: document 01's number, the text that it is about, and the place in it.
+//! A refusal of a call: its number, the text that it is about, and the place in it.
 
-use std::error::Error;
-use std::fmt;
+use core::error::Error;
+use core::fmt;
 
-/// Why a call did nothing. Every lent byte is as it was.
+/// Why a call did nothing: it has run no step, so take it as no to every one of them. Every lent byte is as it was.
 #[derive(Clone, Copy, Debug, PartialEq, Eq)]
+#[non_exhaustive]
 pub struct Refusal {
-    /// Document 01's number, 10 to 19.
+    /// 10 to 19: [`cause`] has each in words.
     pub number: u64,
     pub text: Text,
-    /// The line of that text, from 1; for 17 the rule; 0 where there is none.
+    /// The line of that text, from 1; for 17 the rule; for 18 the bytes that the space needs; 0 where there is none.
     pub place: u64,
 }
 
 /// What a refusal is about.
 #[derive(Clone, Copy, Debug, PartialEq, Eq)]
+#[non_exhaustive]
 pub enum Text {
     Rules,
     State,
     Steps,
-    /// The space lent for the answers, or for the output of [`respond_into`](crate::respond_into).
-    AnswersSpace,
+    /// The space lent for the answers, for the output of [`respond_into`](crate::respond_into), or for the copy of a rule list.
+    OutputSpace,
     /// The space lent for the saved state.
     StateSpace,
+    /// One that a later library reports and this crate does not know.
+    Other(u64),
 }
 
 impl Text {
@@ -31,14 +35,14 @@ impl Text {
             1 => Text::Rules,
             2 => Text::State,
             3 => Text::Steps,
-            4 => Text::AnswersSpace,
+            4 => Text::OutputSpace,
             5 => Text::StateSpace,
-            _ => unreachable!("a refusal is about one of five texts, not {text}"),
+            other => Text::Other(other),
         }
     }
 }
 
-/// The cause of a number in document 01's words, of an answer's number (20 to 30) too; none for a number without a cause.
+/// The cause of a number in words, of an answer's number (20 to 30) too; none for a number without a cause.
 pub fn cause(number: u64) -> Option<&'static str> {
     let cause = match number {
         10 => "line is no form of its text",
@@ -68,13 +72,14 @@ pub fn cause(number: u64) -> Option<&'static str> {
 
 impl fmt::Display for Text {
     fn fmt(&self, formatter: &mut fmt::Formatter<'_>) -> fmt::Result {
-        formatter.write_str(match self {
-            Text::Rules => "the rule list",
-            Text::State => "the saved state",
-            Text::Steps => "the steps",
-            Text::AnswersSpace => "the space for the answers",
-            Text::StateSpace => "the space for the saved state",
-        })
+        match self {
+            Text::Rules => formatter.write_str("the rule list"),
+            Text::State => formatter.write_str("the saved state"),
+            Text::Steps => formatter.write_str("the steps"),
+            Text::OutputSpace => formatter.write_str("the space for the output"),
+            Text::StateSpace => formatter.write_str("the space for the saved state"),
+            Text::Other(text) => write!(formatter, "text {text}"),
+        }
     }
 }
 
@@ -86,6 +91,7 @@ impl fmt::Display for Refusal {
         match (number, place) {
             (_, 0) => {}
             (17, rule) => write!(formatter, ", rule {rule}")?,
+            (18, bytes) => write!(formatter, ", which needs {bytes} bytes")?,
             (_, line) => write!(formatter, ", line {line}")?,
         }
         match cause(*number) {

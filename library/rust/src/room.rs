@@ -1,4 +1,4 @@
-//! Spaces that are always long enough, from the lengths of document 01's forms.
+//! How long the texts can be, from the lengths of their forms.
 
 /// The most bytes that are read of an input of [`respond`](crate::respond) and of steps.
 pub const INPUT_MOST: usize = 65_536;
@@ -22,8 +22,18 @@ pub const STATE_MOST: usize = "(now 3155759999)\n".len()
     + every("(active  )\n", &[SESSIONS, ROLES])
     + every("(did   )\n", &[OBJECTS, PERMISSIONS, USERS]);
 
+/// Bytes that hold any rule list: 128 rules, each on the outside of a box at the corner of the grid whose coordinates are longest.
+pub const RULES_MOST: usize = RULES * "(rule  (at 31 (outside (box -1000000 -1000000 -1000000 -1000000))))\n".len()
+    + digits_below(RULES + 1)
+    - "0".len();
+
 /// Bytes of the fresh state.
-pub(crate) const FRESH: usize = "(now 0)\n".len();
+pub const FRESH_MOST: usize = "(now 0)\n".len();
+
+/// No call takes more bytes of stack, but for what memcpy and memset take.
+pub const STACK_MOST: usize = 131_072;
+
+const RULES: usize = 128;
 
 const USERS: usize = 64;
 const ROLES: usize = 32;
@@ -48,11 +58,13 @@ const fn every(form: &str, counts: &[usize]) -> usize {
     bytes
 }
 
-/// The digits of all numbers below `count`, which is at most 100.
+/// The digits of all numbers below `count`, which is at most 1000.
 const fn digits_below(count: usize) -> usize {
     if count <= 10 {
         count
-    } else {
+    } else if count <= 100 {
         10 + 2 * (count - 10)
+    } else {
+        190 + 3 * (count - 100)
     }
 }

@@ -74,17 +74,20 @@ pub const INPUT: &str = "the input";
 pub const RULES: &str = "the rule list";
 pub const STATE: &str = "the saved state";
 pub const STEPS_TEXT: &str = "the steps";
-pub const ANSWERS_SPACE: &str = "the space for the answers";
+pub const OUTPUT_SPACE: &str = "the space for the output";
 pub const STATE_SPACE: &str = "the space for the state";
 const NOTHING: &str = "";
 
 /// The refusals of each call, by the text that they are about.
-const CALLS: [(&str, &str, &[u64]); 21] = [
+const CALLS: [(&str, &str, &[u64]); 24] = [
     ("respond", NOTHING, &[NOT_REFUSED]),
     ("respond", INPUT, &[10, 11, 12, 13, 14, 19]),
-    ("respond", ANSWERS_SPACE, &[18]),
+    ("respond", OUTPUT_SPACE, &[18]),
     ("check_rules", NOTHING, &[NOT_REFUSED]),
     ("check_rules", RULES, &[10, 11, 12, 13, 14]),
+    ("copy_rules", NOTHING, &[NOT_REFUSED]),
+    ("copy_rules", RULES, &[10, 11, 12, 13, 14]),
+    ("copy_rules", OUTPUT_SPACE, &[18]),
     ("check_state", NOTHING, &[NOT_REFUSED]),
     ("check_state", RULES, &[10, 11, 12, 13, 14]),
     ("check_state", STATE, &[10, 11, 15, 16, 17]),
@@ -98,7 +101,7 @@ const CALLS: [(&str, &str, &[u64]); 21] = [
     ("run_steps", RULES, &[10, 11, 12, 13, 14]),
     ("run_steps", STATE, &[10, 11, 15, 16, 17]),
     ("run_steps", STEPS_TEXT, &[10, 19]),
-    ("run_steps", ANSWERS_SPACE, &[18]),
+    ("run_steps", OUTPUT_SPACE, &[18]),
     ("run_steps", STATE_SPACE, &[18]),
     ("run_steps of a piece", NOTHING, &[NOT_REFUSED]),
 ];

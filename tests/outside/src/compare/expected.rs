@@ -12,17 +12,25 @@ use crate::plain::step_text::{read_steps, write_answers};
 use pitch_gate::{Ran, Refusal, Text};
 use std::fmt;
 
+/// A refusal with its text and place.
+#[derive(Clone, Copy, Debug, PartialEq)]
+pub struct Refused {
+    pub number: u64,
+    pub text: Text,
+    pub place: u64,
+}
+
 #[derive(Clone, Default, PartialEq)]
 pub struct Run {
     pub answers: Vec<u8>,
     pub state: Vec<u8>,
 }
 
-pub fn accepted_rules(rules: &[u8]) -> Result<Vec<Rule>, Refusal> {
+pub fn accepted_rules(rules: &[u8]) -> Result<Vec<Rule>, Refused> {
     read_rules(rules).map_err(|bad| about(Text::Rules, bad))
 }
 
-pub fn accepted_state(rules: &[u8], state: &[u8]) -> Result<(Vec<Rule>, State), Refusal> {
+pub fn accepted_state(rules: &[u8], state: &[u8]) -> Result<(Vec<Rule>, State), Refused> {
     let rules = accepted_rules(rules)?;
     let state = read_state(&rules, state).map_err(|bad| about(Text::State, bad))?;
     Ok((rules, state))
@@ -34,9 +42,9 @@ pub fn expected_run(
     state: &[u8],
     steps: &[u8],
     watch: &mut Watch,
-) -> Result<Run, Refusal> {
+) -> Result<Run, Refused> {
     if steps.len() > LONGEST_INPUT {
-        return Err(Refusal { number: 19, text: Text::Steps, place: 0 });
+        return Err(Refused { number: 19, text: Text::Steps, place: 0 });
     }
     let (rules, state) = accepted_state(rules, state)?;
     let steps = read_steps(steps).map_err(|bad| about(Text::Steps, bad))?;
@@ -44,17 +52,23 @@ pub fn expected_run(
     Ok(Run { answers: write_answers(&answers), state: write_state(&state) })
 }
 
-/// The length written, or 18 where the room is too short for it.
-pub fn no_room(room: usize, length: usize, text: Text) -> Result<usize, Refusal> {
+/// The length written, or 18 with that length where the room is too short for it.
+pub fn no_room(room: usize, length: usize, text: Text) -> Result<usize, Refused> {
     if room < length {
-        Err(Refusal { number: 18, text, place: 0 })
+        Err(Refused { number: 18, text, place: length as u64 })
     } else {
         Ok(length)
     }
 }
 
-fn about(text: Text, Bad { number, place }: Bad) -> Refusal {
-    Refusal { number, text, place }
+fn about(text: Text, Bad { number, place }: Bad) -> Refused {
+    Refused { number, text, place }
+}
+
+impl From<Refusal> for Refused {
+    fn from(refusal: Refusal) -> Refused {
+        Refused { number: refusal.number, text: refusal.text, place: refusal.place }
+    }
 }
 
 impl From<Ran> for Run {

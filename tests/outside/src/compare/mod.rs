@@ -3,7 +3,7 @@
 mod expected;
 mod space;
 
-use crate::counts::{Counts, ANSWERS_SPACE, INPUT, RULES, STATE, STATE_SPACE, STEPS_TEXT};
+use crate::counts::{Counts, INPUT, OUTPUT_SPACE, RULES, STATE, STATE_SPACE, STEPS_TEXT};
 use crate::generate::random::Random;
 use crate::plain::form::Bad;
 use crate::plain::gate;
@@ -11,8 +11,8 @@ use crate::plain::program;
 use crate::plain::rules::Rule;
 use crate::plain::state_text::write_state;
 use crate::plain::step_text::{read_steps, write_answers};
-use expected::{accepted_state, expected_run, no_room, Run};
-use pitch_gate::{Lengths, Refusal, Text};
+use expected::{accepted_state, expected_run, no_room, Refused, Run};
+use pitch_gate::{Refusal, Text};
 use space::Space;
 use std::fmt::Debug;
 
@@ -46,11 +46,12 @@ impl Comparison {
         let output = program::respond(input, &mut |rules, step, outcome| {
             counts.step(rules, step, outcome);
         });
-        self.same("respond", &[input], &Shown(&output), &Shown(&pitch_gate::respond(input)))?;
+        let found = told(pitch_gate::respond(input));
+        self.same("respond", &[input], &Ok(Shown(&output)), &found.as_deref().map(Shown).map_err(|refusal| *refusal))?;
         for room in rooms(output.len()) {
             let mut space = self.space(room);
-            let expected = no_room(room, output.len(), Text::AnswersSpace);
-            let found = pitch_gate::respond_into(input, &mut space.bytes);
+            let expected = no_room(room, output.len(), Text::OutputSpace);
+            let found = told(pitch_gate::respond_into(input, &mut space.bytes));
             self.note_refusal("respond", &[], expected.err());
             self.same("respond_into", &[input], &expected, &found)?;
             self.same_space("respond_into", &[input], &space, expected.is_ok(), &output)?;
@@ -58,10 +59,20 @@ impl Comparison {
         Ok(())
     }
 
+    /// Both calls that read a rule list alone: an accepted one comes back byte for byte.
     pub fn check_rules(&mut self, rules: &[u8]) -> Compared {
-        let expected = expected::accepted_rules(rules).map(drop);
-        self.note("check_rules", &[], expected.err());
-        self.same("check_rules", &[rules], &expected, &pitch_gate::check_rules(rules))
+        let checked = expected::accepted_rules(rules).map(drop);
+        self.note("check_rules", &[], checked.err());
+        self.same("check_rules", &[rules], &checked, &told(pitch_gate::check_rules(rules)))?;
+        for room in rooms(rules.len()) {
+            let mut space = self.space(room);
+            let expected = checked.and(no_room(room, rules.len(), Text::OutputSpace));
+            self.note("copy_rules", &[], expected.err());
+            let found = told(pitch_gate::copy_rules_into(rules, &mut space.bytes));
+            self.same("copy_rules_into", &[rules], &expected, &found)?;
+            self.same_space("copy_rules_into", &[rules], &space, expected.is_ok(), rules)?;
+        }
+        Ok(())
     }
 
     /// Both calls that read a saved state and run no step.
@@ -71,13 +82,13 @@ impl Comparison {
         let read = accepted_state(rules, state);
         let checked = read.as_ref().map(drop).map_err(|refusal| *refusal);
         self.note("check_state", &list, checked.err());
-        self.same("check_state", &texts, &checked, &pitch_gate::check_state(rules, state))?;
+        self.same("check_state", &texts, &checked, &told(pitch_gate::check_state(rules, state)))?;
         let copy = read.map_or(state.to_vec(), |(_, state)| write_state(&state));
         for room in rooms(copy.len()) {
             let mut space = self.space(room);
             let expected = checked.and(no_room(room, copy.len(), Text::StateSpace));
             self.note("copy_state", &list, expected.err());
-            let found = pitch_gate::copy_state_into(rules, state, &mut space.bytes);
+            let found = told(pitch_gate::copy_state_into(rules, state, &mut space.bytes));
             self.same("copy_state_into", &texts, &expected, &found)?;
             self.same_space("copy_state_into", &texts, &space, expected.is_ok(), &copy)?;
         }
@@ -86,12 +97,13 @@ impl Comparison {
 
     pub fn fresh_state(&mut self) -> Compared {
         let fresh = b"(now 0)\n";
-        self.same("fresh_state", &[], &Shown(fresh), &Shown(&pitch_gate::fresh_state()))?;
+        let found = told(pitch_gate::fresh_state());
+        self.same("fresh_state", &[], &Ok(Shown(fresh)), &found.as_deref().map(Shown).map_err(|refusal| *refusal))?;
         for room in rooms(fresh.len()) {
             let mut space = self.space(room);
             let expected = no_room(room, fresh.len(), Text::StateSpace);
             self.note("fresh_state", &[], expected.err());
-            let found = pitch_gate::fresh_state_into(&mut space.bytes);
+            let found = told(pitch_gate::fresh_state_into(&mut space.bytes));
             self.same("fresh_state_into", &[], &expected, &found)?;
             self.same_space("fresh_state_into", &[], &space, expected.is_ok(), fresh)?;
         }
@@ -106,8 +118,8 @@ impl Comparison {
         });
         let refusal = expected.as_ref().err().copied();
         self.note("run_steps", &expected::accepted_rules(rules).unwrap_or_default(), refusal);
-        let found = pitch_gate::run_steps(rules, state, steps);
-        self.same("run_steps", &texts, &expected, &found.map(Run::from))?;
+        let found = told(pitch_gate::run_steps(rules, state, steps).map(Run::from));
+        self.same("run_steps", &texts, &expected, &found)?;
         let (answers, next) = match &expected {
             Ok(run) => (run.answers.len(), run.state.len()),
             Err(_) => (10, 10),
@@ -123,22 +135,23 @@ impl Comparison {
     fn run_steps_into(
         &mut self,
         texts: [&[u8]; 3],
-        run: &Result<Run, Refusal>,
+        run: &Result<Run, Refused>,
         answers_room: usize,
         next_room: usize,
     ) -> Compared {
         let mut answers = self.space(answers_room);
         let mut next = self.space(next_room);
         let expected = run.as_ref().map_err(|refusal| *refusal).and_then(|run| {
-            Ok(Lengths {
-                answers: no_room(answers_room, run.answers.len(), Text::AnswersSpace)?,
-                state: no_room(next_room, run.state.len(), Text::StateSpace)?,
-            })
+            Ok((
+                no_room(answers_room, run.answers.len(), Text::OutputSpace)?,
+                no_room(next_room, run.state.len(), Text::StateSpace)?,
+            ))
         });
         self.note_refusal("run_steps", &[], expected.err().filter(|refusal| refusal.number == 18));
         let [rules, state, steps] = texts;
         let (answers_bytes, next_bytes) = (&mut answers.bytes, &mut next.bytes);
-        let found = pitch_gate::run_steps_into(rules, state, steps, answers_bytes, next_bytes);
+        let found = told(pitch_gate::run_steps_into(rules, state, steps, answers_bytes, next_bytes))
+            .map(|lengths| (lengths.answers, lengths.state));
         self.same("run_steps_into", &texts, &expected, &found)?;
         let nothing = Run::default();
         let run = run.as_ref().unwrap_or(&nothing);
@@ -160,7 +173,7 @@ impl Comparison {
             });
             let run = Run { answers: write_answers(&answers), state: write_state(&next) };
             let texts: [&[u8]; 3] = [rules, &handed_over, piece];
-            let found = pitch_gate::run_steps(rules, &handed_over, piece).map(Run::from);
+            let found = told(pitch_gate::run_steps(rules, &handed_over, piece).map(Run::from));
             self.counts.accepted("run_steps of a piece");
             self.same("run_steps of a piece", &texts, &Ok(run.clone()), &found)?;
             handed_over = run.state;
@@ -173,15 +186,15 @@ impl Comparison {
         Space::new(&mut self.random, length)
     }
 
-    fn note(&mut self, call: &'static str, rules: &[Rule], refusal: Option<Refusal>) {
+    fn note(&mut self, call: &'static str, rules: &[Rule], refusal: Option<Refused>) {
         match refusal {
             None => self.counts.accepted(call),
             refusal => self.note_refusal(call, rules, refusal),
         }
     }
 
-    fn note_refusal(&mut self, call: &'static str, rules: &[Rule], refusal: Option<Refusal>) {
-        let Some(Refusal { number, text, place }) = refusal else { return };
+    fn note_refusal(&mut self, call: &'static str, rules: &[Rule], refusal: Option<Refused>) {
+        let Some(Refused { number, text, place }) = refusal else { return };
         self.counts.refused(call, name(text), number);
         if number == 17 {
             self.counts.saved_broken(&rules[place as usize - 1]);
@@ -222,6 +235,10 @@ impl Comparison {
     }
 }
 
+fn told<Value>(result: Result<Value, Refusal>) -> Result<Value, Refused> {
+    result.map_err(Refused::from)
+}
+
 /// As long as the text, longer, and one byte too short.
 fn rooms(length: usize) -> impl Iterator<Item = usize> {
     [Some(length), Some(length + 7), length.checked_sub(1)].into_iter().flatten()
@@ -232,8 +249,9 @@ fn name(text: Text) -> &'static str {
         Text::Rules => RULES,
         Text::State => STATE,
         Text::Steps => STEPS_TEXT,
-        Text::AnswersSpace => ANSWERS_SPACE,
+        Text::OutputSpace => OUTPUT_SPACE,
         Text::StateSpace => STATE_SPACE,
+        other => panic!("a text that document 01 does not have: {other}"),
     }
 }
 

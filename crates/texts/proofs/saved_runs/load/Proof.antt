@@ -1,7 +1,7 @@
 -- `texts::saved_runs::load` meets its contract. Assumes nothing.
 use mathlib.Core.Path.{sym, ap, _∙_}
 use Rattle.enforcement.specs.declared.states.State.{State}
-use Rattle.texts.specs.declared.saved_runs.Part.the-variants as part
+use Rattle.texts.specs.declared.saved_runs.Text.the-variants as Text
 use Rattle.texts.specs.declared.saved_runs.LoadedTexts.{LoadedTexts}
 use Rattle.texts.proofs.SavedRunning.{rules-refused, rules-loaded}
 use borrow.Author.Needs.{needs}
@@ -17,7 +17,7 @@ fresh-requires c κs = search needs
 returns : tie.Need-returns
 returns c =
     let read = c .before .before .before .before .read-rules in
-    ap (λ (s : State). record { part = part.Rules; number = read .result .number; place = read .result .line; list = read .result .list; state = s }) (c .fresh .ensures)
+    ap (λ (s : State). record { text = Text.Rules; number = read .result .number; place = read .result .line; list = read .result .list; state = s }) (c .fresh .ensures)
     ∙ rules-refused _ (read .result) _ (read .ensures) (c .before .if1 .taken)
 
 under-rules-requires : tie.Need-under-rules-requires

@@ -14,6 +14,9 @@ enum-known-written c = search needs
 enum-told : tie.Need-enum-told
 enum-told c = search needs
 
+saved-length-requires : tie.Need-saved-length-requires
+saved-length-requires c κs = search needs
+
 refused-report-requires : tie.Need-refused-report-requires
 refused-report-requires c κs = search needs
 
@@ -22,8 +25,8 @@ same-length c = search needs
 
 returns : tie.Need-returns
 returns c =
-    let written = c .before .before .before .before .before .write-state in
-    saved-refused _ (c .before .before .before .before .before .before .before .before .pre) _ (written .ensures .1) _ (sym (c .before .enum-told .given .1) ∙ written .ensures .0) (c .refused-report .ensures)
+    let written = c .before .before .before .before .before .before .write-state in
+    saved-refused _ (c .before .before .before .before .before .before .before .before .before .pre) _ (written .ensures .1) _ (sym (c .before .before .enum-told .given .1) ∙ written .ensures .0) (c .before .saved-length .ensures) (c .refused-report .ensures)
 
 same-length-2 : tie.Need-same-length-2
 same-length-2 c = search needs
@@ -43,6 +46,7 @@ write-saved-spec =
     write-state-requires
     enum-known-written
     enum-told
+    saved-length-requires
     refused-report-requires
     same-length
     returns

@@ -1,9 +1,9 @@
--- `pitch_gate::part_number` meets its contract. Assumes nothing.
+-- `pitch_gate::text_number` meets its contract. Assumes nothing.
 use mathlib.Core.Path.{sym, ap}
-use Rattle.pitch_gate.specs.Reports.{partNumber}
+use Rattle.pitch_gate.specs.Reports.{textNumber}
 use borrow.Author.Needs.{needs}
-use Rattle.pitch_gate.proofs.part_number.Statement.{statement}
-use Rattle.pitch_gate.proofs.part_number.Tie as tie
+use Rattle.pitch_gate.proofs.text_number.Statement.{statement}
+use Rattle.pitch_gate.proofs.text_number.Tie as tie
 
 enum-told : tie.Need-enum-told
 enum-told c = search needs
@@ -24,31 +24,31 @@ enum-told-6 : tie.Need-enum-told-6
 enum-told-6 c = search needs
 
 returns : tie.Need-returns
-unfolding partNumber
-returns c = sym (ap partNumber (c .enum-told .given .1))
+unfolding textNumber
+returns c = sym (ap textNumber (c .enum-told .given .1))
 
 returns-2 : tie.Need-returns-2
-unfolding partNumber
-returns-2 c = sym (ap partNumber (c .enum-told2 .given .1))
+unfolding textNumber
+returns-2 c = sym (ap textNumber (c .enum-told2 .given .1))
 
 returns-3 : tie.Need-returns-3
-unfolding partNumber
-returns-3 c = sym (ap partNumber (c .enum-told3 .given .1))
+unfolding textNumber
+returns-3 c = sym (ap textNumber (c .enum-told3 .given .1))
 
 returns-4 : tie.Need-returns-4
-unfolding partNumber
-returns-4 c = sym (ap partNumber (c .enum-told4 .given .1))
+unfolding textNumber
+returns-4 c = sym (ap textNumber (c .enum-told4 .given .1))
 
 returns-5 : tie.Need-returns-5
-unfolding partNumber
-returns-5 c = sym (ap partNumber (c .enum-told5 .given .1))
+unfolding textNumber
+returns-5 c = sym (ap textNumber (c .enum-told5 .given .1))
 
 returns-6 : tie.Need-returns-6
-unfolding partNumber
-returns-6 c = sym (ap partNumber (c .enum-told6 .given .1))
+unfolding textNumber
+returns-6 c = sym (ap textNumber (c .enum-told6 .given .1))
 
-pub part-number-spec : {M : Type 1} → statement M
-part-number-spec =
+pub text-number-spec : {M : Type 1} → statement M
+text-number-spec =
     tie.close
     (tie.spec
     enum-told

@@ -1,0 +1,214 @@
+-- A rule list has at most 8,980 bytes, and one list has as many. Assumes nothing.
+use mathlib.Core.Path.{_≡_, refl, sym, ap, _∙_, subst}
+use mathlib.Core.Bool.{Bool, true, false, cond, _&&_}
+use mathlib.Core.List.{List, [], _∷_, _++_}
+use Prim.Native.Nat.{ℕ, zero, suc, _+_, _-_, _*_, _/_, _≤_, _<_}
+use native.Mathlib.Omega.{arith}
+use lib.ListN.{length, drop, getD, replicate, length-append, length-replicate}
+use lib.Dec.{ltb, leb}
+use borrow.Author.Tests.{ltb-true, ltb-false, leb-true, lt-leb}
+use Rattle.sets.proofs.Booleans.{both}
+use Rattle.forms.specs.Numbers.{digitsOf, digitsWithin, signedOf, signedCode}
+use Rattle.forms.specs.Kinds.{kindOf, lookup, isSlot, syntaxOf, amountOf, inRangeBy, inRange}
+use Rattle.forms.specs.Forms.{textBy, itemText, head, tail, left, fill, allInRange}
+use Rattle.forms.specs.Tables.{bytes, linesIn, formAt}
+use Rattle.forms.specs.declared.kinds.Syntax.{Syntax}
+use Rattle.forms.specs.declared.kinds.Syntax.the-variants as syntax
+use Rattle.forms.proofs.Digits.{digits-small, digits-step}
+use Rattle.forms.proofs.FixedDigits.{fixed-length}
+use Rattle.places.specs.Places.{shapeInRange, shapeSound}
+use Rattle.rules.specs.Acceptance.{ruleInRange, ruleDistinct, ruleSound, ruleAccepted, every, rulesOf, listAccepted}
+use Rattle.rules.specs.declared.families.Rule.{Rule}
+use Rattle.rules.specs.declared.lists.RuleList.{RuleList}
+use Rattle.rule_text.specs.Lines.{ruleForms, lineOf, ruleText, listText}
+use Rattle.rule_text.specs.Reading as ruleText
+use Rattle.rule_text.specs.Writing.{textOf}
+use Rattle.rule_text.proofs.Values.{each-at, everyForm, form-at}
+use Rattle.rule_text.proofs.Inverse.{form-of-rule, number-of-rule, rule-line-in-range}
+use Rattle.rule_text.proofs.Slots.{rules-of-list, list-accepted, list-few}
+use Rattle.rule_text.proofs.Loaded.{loaded-list}
+use Rattle.rule_text.proofs.Back.{write-back, read-back, read-accepted}
+use Rattle.texts.specs.Sizes.{longestRule, longestRules}
+use Rattle.texts.specs.SavedRuns.{refusedReport, outputReport, rulesCopyReport}
+use Rattle.texts.specs.declared.saved_runs.Text.the-variants as Text
+
+-- ---- a larger number has no fewer digits
+
+digits-some : (v : ℕ) → 1 ≤ length (digitsOf v)
+digits-some v = go (ltb v 10) refl
+  where
+    go : (b : Bool) → ltb v 10 ≡ b → 1 ≤ length (digitsOf v)
+    go true e = rw (digits-small v (ltb-true v 10 e)) (omega arith)
+    go false e = rw (digits-step v (ltb-false v 10 e), length-append) (omega arith)
+
+digits-more : (bound v w : ℕ) → w ≤ bound → v ≤ w → length (digitsOf v) ≤ length (digitsOf w)
+digits-more zero v w b h =
+    let e : v ≡ w = omega arith in
+    rw e (omega arith)
+digits-more (suc bound) v w b h = go (ltb v 10) refl (digits-more bound (v / 10) (w / 10))
+  where
+    go : (small : Bool) → ltb v 10 ≡ small → (w / 10 ≤ bound → v / 10 ≤ w / 10 → length (digitsOf (v / 10)) ≤ length (digitsOf (w / 10))) → length (digitsOf v) ≤ length (digitsOf w)
+    go true e tenth = rw (digits-small v (ltb-true v 10 e)) (omega (arith, digits-some w))
+    go false e tenth =
+        let ten : 10 ≤ v = ltb-false v 10 e in
+        let less = tenth (omega arith) (omega arith) in
+        rw (digits-step v ten, digits-step w (omega arith), length-append, length-append) (omega (arith, less))
+
+-- ---- how long a form's line can be
+
+-- the most bytes of what stands for a mark
+unfoldable widestBy : Syntax → ℕ → ℕ
+widestBy syntax.Literal high = 1
+widestBy syntax.Number high = length (digitsOf high)
+widestBy syntax.Signed high = suc (length (digitsOf high))
+widestBy syntax.Date high = 8
+widestBy syntax.TimeOfDay high = 4
+
+by-syntax : (x : Syntax) (low high c v : ℕ) → inRangeBy x low high v ≡ true → length (textBy x c v) ≤ widestBy x high
+unfolding textBy inRangeBy widestBy signedOf amountOf
+by-syntax syntax.Literal low high c v h = omega arith
+by-syntax syntax.Number low high c v h = digits-more high v high (omega arith) (leb-true v high (both (leb low v) (leb v high) h .1))
+by-syntax syntax.Signed low high c v h = go (ltb 10000000000 v) h
+  where
+    go : (b : Bool) → leb (cond b (v - 10000000000) v) high ≡ true → length (cond b (45 ∷ digitsOf (v - 10000000000)) (digitsOf v)) ≤ suc (length (digitsOf high))
+    go true e = omega (arith, digits-more high (v - 10000000000) high (omega arith) (leb-true (v - 10000000000) high e))
+    go false e = omega (arith, digits-more high v high (omega arith) (leb-true v high e))
+by-syntax syntax.Date low high c v h = omega (arith, fixed-length 8 v)
+by-syntax syntax.TimeOfDay low high c v h = omega (arith, fixed-length 4 v)
+
+unfoldable widest : List ℕ → ℕ
+widest [] = 0
+widest (c ∷ form) = widestBy (syntaxOf c) (kindOf c .high) + widest form
+
+item-most : (c v : ℕ) → inRange c v ≡ true → length (itemText c v) ≤ widestBy (syntaxOf c) (kindOf c .high)
+unfolding itemText inRange
+item-most c v h = by-syntax (syntaxOf c) (kindOf c .low) (kindOf c .high) c v h
+
+fill-most : (form values : List ℕ) → allInRange form values ≡ true → length (fill form values) ≤ widest form
+unfolding fill allInRange widest
+fill-most [] values h = omega arith
+fill-most (c ∷ form) values h =
+    let p = both (inRange c (head values)) (allInRange form (left (isSlot c) values)) h in
+    rw length-append (omega (arith, item-most c (head values) (p .0), fill-most form (left (isSlot c) values) (p .1)))
+
+-- ---- a rule's line
+
+-- each form begins with the rule's own number
+begins : (k : ℕ) → k < 19 → formAt ruleForms k ≡ bytes "(rule #" ++ drop 7 (formAt ruleForms k)
+unfolding formAt linesIn ruleForms
+begins k h =
+    each-at (λ k. formAt ruleForms k ≡ bytes "(rule #" ++ drop 7 (formAt ruleForms k))
+    (refl, (refl, (refl, (refl, (refl, (refl, (refl, (refl, (refl, (refl, (refl, (refl, (refl, (refl, (refl, (refl, (refl, (refl, (refl, tt)))))))))))))))))))
+    k h
+
+opened : (rest values : List ℕ) → length (fill (bytes "(rule #" ++ rest) values) ≡ 6 + (length (digitsOf (head values)) + length (fill rest (tail values)))
+unfolding fill itemText textBy isSlot kindOf lookup
+opened rest values = omega (arith, length-append (digitsOf (head values)) (fill rest (tail values)))
+
+rest-in-range : (rest values : List ℕ) → allInRange (bytes "(rule #" ++ rest) values ≡ true → allInRange rest (tail values) ≡ true
+unfolding allInRange inRange inRangeBy isSlot kindOf lookup
+rest-in-range rest values h = both (leb 1 (head values) && leb (head values) 128) (allInRange rest (tail values)) h .1
+
+-- after the number no form takes more than 62 bytes
+forms-short : everyForm (λ form. leb (widest (drop 7 form)) 62) (linesIn ruleForms) ≡ true
+unfolding everyForm widest widestBy kindOf lookup linesIn ruleForms digitsOf digitsWithin
+forms-short = refl
+
+head-first : (values : List ℕ) → head values ≡ getD values 0 0
+head-first [] = refl
+head-first (v ∷ values) = refl
+
+line-most : (n : ℕ) (rule : Rule) → 1 ≤ n → n ≤ 128 → ruleInRange rule ≡ true → length (ruleText n rule) ≤ 68 + length (digitsOf n)
+unfolding ruleText
+line-most n rule first last h =
+    let k = lineOf n rule .form in
+    let values = lineOf n rule .values in
+    let rest = drop 7 (formAt ruleForms k) in
+    let same = begins k (form-of-rule n rule) in
+    let ranged = rest-in-range rest values (subst (λ (form : List ℕ). allInRange form values ≡ true) same (rule-line-in-range n rule first last h)) in
+    let whole : length (fill (formAt ruleForms k) values) ≡ 6 + (length (digitsOf (head values)) + length (fill rest (tail values))) = ap (λ (form : List ℕ). length (fill form values)) same ∙ opened rest values in
+    let number : length (digitsOf (head values)) ≡ length (digitsOf n) = ap (λ (m : ℕ). length (digitsOf m)) (head-first values ∙ number-of-rule n rule) in
+    let most = leb-true (widest rest) 62 (form-at (λ form. leb (widest (drop 7 form)) 62) forms-short k (form-of-rule n rule)) in
+    omega (arith, whole, number, fill-most rest (tail values) ranged, most)
+
+-- ---- all lines
+
+-- the digits of so many numbers, from m on
+unfoldable digitSum : ℕ → ℕ → ℕ
+digitSum zero m = 0
+digitSum (suc n) m = length (digitsOf m) + digitSum n (suc m)
+
+sum-grows : (n more m : ℕ) → digitSum n m ≤ digitSum (n + more) m
+unfolding digitSum
+sum-grows zero more m = omega arith
+sum-grows (suc n) more m =
+    let e : suc n + more ≡ suc (n + more) = omega arith in
+    rw e (omega (arith, sum-grows n more (suc m)))
+
+sum-all : digitSum 128 1 ≡ 276
+unfolding digitSum digitsOf digitsWithin
+sum-all = refl
+
+list-most : (rules : List Rule) (m : ℕ) → 1 ≤ m → m + length rules ≤ 129 → every ruleAccepted rules ≡ true → length (listText m rules) ≤ 68 * length rules + digitSum (length rules) m
+unfolding listText every digitSum
+list-most [] m first last h = omega arith
+list-most (rule ∷ rules) m first last h =
+    let p = both (ruleAccepted rule) (every ruleAccepted rules) h in
+    let ranged = both (ruleInRange rule) (ruleDistinct rule && ruleSound rule) (p .0) .0 in
+    rw length-append (omega (arith, line-most m rule first (omega arith) ranged, list-most rules (suc m) (omega arith) (omega arith) (p .1)))
+
+-- no list that 40 does not refuse has a longer text
+pub rules-most : (list : RuleList) → listAccepted list ≡ true → length (textOf list) ≤ 8980
+unfolding listAccepted
+rules-most list accepted =
+    let few = list-few list accepted in
+    let all : length (rulesOf list) + (128 - length (rulesOf list)) ≡ 128 = omega arith in
+    let digits : digitSum (length (rulesOf list)) 1 ≤ digitSum 128 1 = rw all at (sum-grows (length (rulesOf list)) (128 - length (rulesOf list)) 1) in
+    let each = both (leb (list .length) 128) (every ruleAccepted (rulesOf list)) accepted .1 in
+    omega (arith, list-most (rulesOf list) 1 (omega arith) (omega arith) each, digits, sum-all)
+
+-- and so no text that is accepted is longer
+pub accepted-most : (rules : List ℕ) → ruleText.readRules rules .number ≡ 0 → length rules ≤ 8980
+accepted-most rules h =
+    let list = ruleText.readRules rules .list in
+    let whole : textOf list ≡ rules = write-back rules list (loaded-list (ruleText.readLines rules) h) in
+    subst (λ (text : List ℕ). length text ≤ 8980) whole (rules-most list (read-accepted rules))
+
+-- ---- and least
+
+longest-rest : length (fill (drop 7 (formAt ruleForms 16)) (31 ∷ 10001000000 ∷ 10001000000 ∷ 10001000000 ∷ 10001000000 ∷ [])) ≡ 62
+unfolding fill itemText textBy isSlot kindOf lookup formAt linesIn ruleForms signedOf digitsOf digitsWithin
+longest-rest = refl
+
+longest-line : (n : ℕ) → length (ruleText n longestRule) ≡ 68 + length (digitsOf n)
+unfolding ruleText lineOf signedCode
+longest-line n =
+    ap (λ (form : List ℕ). length (fill form (n ∷ 31 ∷ 10001000000 ∷ 10001000000 ∷ 10001000000 ∷ 10001000000 ∷ []))) (begins 16 (omega arith))
+    ∙ opened (drop 7 (formAt ruleForms 16)) (n ∷ 31 ∷ 10001000000 ∷ 10001000000 ∷ 10001000000 ∷ 10001000000 ∷ [])
+    ∙ omega (arith, longest-rest)
+
+longest-lines : (n m : ℕ) → length (listText m (replicate n longestRule)) ≡ 68 * n + digitSum n m
+unfolding listText digitSum
+longest-lines zero m = refl
+longest-lines (suc n) m = rw length-append (omega (arith, longest-line m, longest-lines n (suc m)))
+
+-- one list has as many bytes
+pub longest-text : length (listText 1 longestRules) ≡ 8980
+unfolding longestRules
+longest-text = omega (arith, longest-lines 128 1, sum-all)
+
+longest-accepted : (n : ℕ) → every ruleAccepted (replicate n longestRule) ≡ true
+unfolding every ruleInRange ruleDistinct ruleSound shapeInRange shapeSound
+longest-accepted zero = refl
+longest-accepted (suc n) = longest-accepted n
+
+-- it is accepted, and a space that is shorter by a byte is too short for its copy
+pub rules-least : (room : ℕ) → room < 8980 → rulesCopyReport (ruleText.readRules (listText 1 longestRules)) room ≡ refusedReport Text.OutputSpace 18 8980
+unfolding rulesCopyReport outputReport longestRules
+rules-least room h =
+    let few : length (replicate 128 longestRule) ≤ 128 = omega (arith, length-replicate 128 longestRule) in
+    let same : rulesOf (ruleText.listOf (replicate 128 longestRule)) ≡ replicate 128 longestRule = rules-of-list (replicate 128 longestRule) few in
+    let accepted = list-accepted (replicate 128 longestRule) few (longest-accepted 128) in
+    let read : ruleText.readRules (listText 1 (replicate 128 longestRule)) ≡ record { number = 0; line = 0; list = ruleText.listOf (replicate 128 longestRule) } =
+    rw same at (read-back (ruleText.listOf (replicate 128 longestRule)) accepted) in
+    rw (read, same, longest-text, lt-leb 8980 room h)

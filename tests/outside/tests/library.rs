@@ -1,0 +1,113 @@
+//! The library beside the rest of the repository: the header, the example day, the vectors.
+
+use pitch_gate::*;
+
+const HEADER: &str = include_str!("../../../library/include/pitch_gate.h");
+const DAY: &[u8] = include_bytes!("../../../library/examples/day.in");
+
+/// Rules and steps of an input as the program takes it.
+fn parts(input: &[u8]) -> Option<(&[u8], &[u8])> {
+    const LINE: &[u8] = b"(steps)\n";
+    let place = input.windows(LINE.len()).position(|window| window == LINE)?;
+    Some((&input[..place], &input[place + LINE.len()..]))
+}
+
+#[test]
+fn a_state_handed_over_gives_the_same_as_one_run() {
+    let (rules, steps) = parts(DAY).unwrap();
+    let fresh = fresh_state().unwrap();
+    let whole = run_steps(rules, &fresh, steps).unwrap();
+    let cuts = steps.iter().enumerate().filter(|(_, byte)| **byte == b'\n').map(|(place, _)| place + 1);
+    for cut in cuts {
+        let first = run_steps(rules, &fresh, &steps[..cut]).unwrap();
+        let second = run_steps(rules, &first.state, &steps[cut..]).unwrap();
+        assert_eq!([first.answers, second.answers].concat(), whole.answers);
+        assert_eq!(second.state, whole.state);
+    }
+}
+
+/// Each beginning of a saved text that ends with a line feed is accepted or refused for what it lacks, never noticed as cut.
+#[test]
+fn a_saved_text_that_is_cut_can_be_accepted() {
+    let (rules, steps) = parts(DAY).unwrap();
+    let state = run_steps(rules, &fresh_state().unwrap(), steps).unwrap().state;
+    let cuts = state.iter().enumerate().filter(|(_, byte)| **byte == b'\n').map(|(place, _)| place + 1);
+    let accepted = cuts.filter(|cut| check_state(b"", &state[..*cut]).is_ok()).count();
+    assert_eq!(accepted, state.iter().filter(|byte| **byte == b'\n').count());
+}
+
+/// The files of a folder of vectors whose names end so.
+fn vectors(folder: &str, end: &str) -> Vec<std::path::PathBuf> {
+    let folder = format!("{}/../../vectors/{folder}", env!("CARGO_MANIFEST_DIR"));
+    let paths = std::fs::read_dir(folder).unwrap().map(|entry| entry.unwrap().path());
+    paths.filter(|path| path.extension().is_some_and(|found| found == end)).collect()
+}
+
+/// Each rule list and each saved state of the vectors: the same bytes, or the refusal that checking it gives.
+#[test]
+fn every_vector_comes_back_byte_for_byte() {
+    let mut lists: Vec<Vec<u8>> = vec![];
+    for path in vectors("handover", "rules") {
+        let (rules, state) = (std::fs::read(&path).unwrap(), std::fs::read(path.with_extension("state")).unwrap());
+        assert_eq!(copy_state(&rules, &state), check_state(&rules, &state).map(|()| state));
+        lists.push(rules);
+    }
+    for path in vectors("program", "in") {
+        let input = std::fs::read(path).unwrap();
+        lists.push(parts(&input).map_or(&input[..], |(rules, _)| rules).to_vec());
+    }
+    let accepted = lists.iter().filter(|rules| check_rules(rules).is_ok()).count();
+    assert!(accepted > 100 && lists.len() - accepted > 50, "{accepted} of {} accepted", lists.len());
+    for rules in lists {
+        assert_eq!(copy_rules(&rules), check_rules(&rules).map(|()| rules));
+    }
+}
+
+/// A call that takes more stack than the header says ends the test's process. The thread itself gets 16 KiB beside it.
+#[test]
+fn each_call_fits_the_stack() {
+    let inputs: Vec<Vec<u8>> = vectors("program", "in").into_iter().map(|path| std::fs::read(path).unwrap()).collect();
+    assert!(inputs.len() > 100, "{} inputs", inputs.len());
+    let calls = move || {
+        for input in &inputs {
+            respond(input).unwrap();
+            if let Some((rules, steps)) = parts(input) {
+                let fresh = fresh_state().unwrap();
+                let state = run_steps(rules, &fresh, steps).map_or(fresh, |ran| ran.state);
+                let copied = copy_state_into(rules, &state, &mut vec![0; state.len()]);
+                assert_eq!(copied.is_ok(), check_state(rules, &state).is_ok());
+                assert_eq!(copy_rules(rules).is_ok(), check_rules(rules).is_ok());
+            }
+        }
+    };
+    std::thread::Builder::new().stack_size(STACK_MOST + 16 * 1024).spawn(calls).unwrap().join().unwrap();
+}
+
+/// The header has the same causes, beside each number and in words, and the same sizes.
+#[test]
+fn the_header_says_the_same() {
+    let beside = |number: u64, cause: &str| {
+        HEADER.lines().any(|line| line.contains(&format!(" = {number}")) && line.contains(&format!("/* {cause} */")))
+    };
+    let in_words = |number: u64, cause: &str| HEADER.contains(&format!("    case {number}: return \"{cause}\";\n"));
+    for number in 1..100 {
+        if let Some(cause) = cause(number) {
+            assert!(beside(number, cause) && in_words(number, cause), "{number}");
+        }
+    }
+    let numbers = (1..100).filter(|number| cause(*number).is_some()).count();
+    assert_eq!(HEADER.matches("    case ").count(), numbers + 1);
+    for (name, bytes) in [
+        ("INPUT_MOST", INPUT_MOST),
+        ("RULES_MOST", RULES_MOST),
+        ("STATE_MOST", STATE_MOST),
+        ("OUTPUT_MOST", OUTPUT_MOST),
+        ("ANSWER_MOST", ANSWER_MOST),
+        ("FRESH_MOST", FRESH_MOST),
+        ("STACK_MOST", STACK_MOST),
+        ("VERSION", VERSION as usize),
+    ] {
+        let define = format!("#define PITCH_GATE_{name} {bytes}");
+        assert!(HEADER.lines().any(|line| line.split(" /*").next().map(str::trim_end) == Some(&define)), "{define}");
+    }
+}
