@@ -1,0 +1,83 @@
+// Rule lists and saved states, read.
+use enforcement::State;
+use rules::RuleList;
+
+// The rules that were read last, and the state.
+pub struct Loaded {
+    pub list: RuleList,
+    pub state: State,
+}
+
+// No rules, and a fresh state.
+pub(crate) fn nothing() -> Loaded {
+    let read = rule_text::read_rules(b"");
+    let list = read.list;
+    Loaded {
+        list,
+        state: State::fresh(),
+    }
+}
+
+pub(crate) fn loaded_by(loaded: Loaded, kind: usize, text: &[u8], number: u64) -> Loaded {
+    match kind {
+        0 => read_rules(loaded, text),
+        1 => read_saved(loaded, text),
+        2 => with_length(loaded, number),
+        _ => with_time(loaded, number),
+    }
+}
+
+fn read_rules(loaded: Loaded, text: &[u8]) -> Loaded {
+    let read = rule_text::read_rules(text);
+    show(read.number, read.line);
+    let list = read.list;
+    let state = loaded.state;
+    Loaded { list, state }
+}
+
+// A saved text under the rules that were read last.
+fn read_saved(loaded: Loaded, text: &[u8]) -> Loaded {
+    let list = loaded.list;
+    let read = state_text::read_state(list, text);
+    show(read.number, read.place);
+    let state = read.state;
+    Loaded { list, state }
+}
+
+// The list with another length, as no text can hold it.
+fn with_length(loaded: Loaded, length: u64) -> Loaded {
+    let mut list = loaded.list;
+    list.length = length as usize;
+    io::print_decimal(1, length);
+    let state = loaded.state;
+    Loaded { list, state }
+}
+
+// The state with another time, as no text can hold it.
+fn with_time(loaded: Loaded, time: u64) -> Loaded {
+    let list = loaded.list;
+    let mut state = loaded.state;
+    state.time = time;
+    io::print_decimal(1, time);
+    Loaded { list, state }
+}
+
+// The number of a refusal and its line or rule.
+fn show(number: u64, place: usize) {
+    match number {
+        0 => say(b"accepted"),
+        17 => say_at(17, b" rule ", place),
+        40 => say(b"40"),
+        _ => say_at(number, b" at line ", place),
+    }
+}
+
+fn say(text: &[u8]) {
+    io::write_all(1, text);
+}
+
+fn say_at(number: u64, text: &[u8], place: usize) {
+    io::print_decimal(1, number);
+    io::write_all(1, text);
+    io::print_decimal(1, place as u64);
+}
