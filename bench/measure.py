@@ -36,7 +36,7 @@ class Work(NamedTuple):
     name: str
     # How often the work is done in one run: steps, or texts.
     count: int
-    # 'ours', 'selecting' and, for lists, 'plain'
+    # 'ours', 'selecting' and, for lists, 'plain'; for calls 'ours' and, where there is one, 'older'
     sides: dict
 
 
@@ -61,13 +61,13 @@ def main():
 
 
 def everything():
-    lists, texts = list_works(), text_works()
-    rounds, seconds, is_alike = measured(lists + texts)
+    lists, texts, calls = list_works(), text_works(), call_works()
+    rounds, seconds, is_alike = measured(lists + texts + calls)
     return report.Found(
         rounds=rounds, processor=processor(), compiler=os.environ['RUST_VERSION'], batch=BATCH, list_steps=BATCHES * BATCH,
         list_names=[work.name for work in lists], text_names=[work.name for work in texts], text_times=[work.count for work in texts],
-        input_steps=sample_texts.full_input()[1], seconds=seconds, is_alike=is_alike,
-        memory={work.name: peaks(work) for work in (lists[3], texts[0], texts[2])})
+        call_names=[work.name for work in calls], input_steps=sample_texts.full_input()[1], seconds=seconds, is_alike=is_alike,
+        memory={work.name: peaks(work) for work in (lists[3], texts[0], texts[2])}, copied={work.name: copies(work) for work in calls})
 
 
 def processor():
@@ -108,6 +108,28 @@ def text_work(name, kind, text, times):
     ours = [Command([OURS['texts']], stored(f'{kind}_{times}_{count}', letter + chr(64 + count) + text)) for count in counts]
     rust = [Command([f'{FOLDER}/texts', kind, str(count)], path) for count in counts]
     return Work(name, times, {'ours': Side(*ours), 'selecting': Side(*rust)})
+
+
+# A call of the library for one step, on our archive and, where there is one, on an older.
+def call_works():
+    return [
+        call_work('one step, 7 rules, a saved state of 15 lines', 'small', sample_texts.small_call(), 4000),
+        call_work(f'one step, {sample_texts.RULES} rules', 'fresh', sample_texts.fresh_call(), 1000),
+        call_work(f'one step, {sample_texts.RULES} rules, a full saved state', 'full', sample_texts.full_call(), 4)]
+
+
+def call_work(name, kind, texts, times):
+    paths = [stored(f'call_{kind}.{part}', text) for part, text in zip(('rules', 'state', 'steps'), texts)]
+    sides = {}
+    for side in ('ours', 'older') if os.environ.get('OLDER') else ('ours',):
+        sides[side] = Side(*[Command([f'{FOLDER}/calls_{side}'] + paths + [str(count)], os.devnull) for count in (1, 1 + times)])
+    return Work(name, times, sides)
+
+
+def copies(work):
+    """The bytes that one call copies."""
+    return {side: int(timed(Command([commands.idle.arguments[0].replace('calls_', 'copies_')] + commands.idle.arguments[1:], os.devnull))[0])
+            for side, commands in work.sides.items()}
 
 
 def stored(name, text):

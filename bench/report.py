@@ -18,6 +18,8 @@ LISTS = MIXED + [HEAVY]
 # times .., and a Rust gate that tests every rule takes at least 5 and 4 times our time"
 BARS = {MIXED[3]: 1.6, HEAVY: 1.0}
 PLAIN_BARS = {MIXED[3]: 5, HEAVY: 4}
+# "Texts: `respond` on a full input at most 2.5 times Rust, reading alone 3, a full saved state 4."
+TEXT_BARS = [2.5, 3, 4]
 
 
 class Found(NamedTuple):
@@ -32,12 +34,16 @@ class Found(NamedTuple):
     text_names: list
     # How often each text is worked through in one run.
     text_times: list
+    # The calls of the library for one step.
+    call_names: list
     # Steps in the full input.
     input_steps: int
-    # Of each work and side the seconds for one step or text.
+    # Of each work and side the seconds for one step, text or call.
     seconds: dict
     # Of some works and each side the most bytes held.
     memory: dict
+    # Of each call and side the bytes that it copies.
+    copied: dict
     # Of each work whether all its sides printed the same checksum.
     is_alike: dict
 
@@ -108,12 +114,17 @@ def table(found):
     for name, sides in found.memory.items():
         label = 'peak memory, ' + short(name)
         rows.append([label, 'MB'] + costs(sides, lambda held: held / 1e6, digits=2) + [''])
+    return aligned(rows, range(2, 7))
+
+
+# A table whose first row is its head; some columns hold numbers.
+def aligned(rows, numbers):
     widths = [max(len(row[i]) for row in rows) for i in range(len(rows[0]))]
-    rows.insert(1, ['-' * width for width in widths[:2]] + ['-' * (width - 1) + ':' for width in widths[2:-1]] + ['-' * widths[-1]])
+    line = ['-' * (width - 1) + ':' if i in numbers else '-' * width for i, width in enumerate(widths)]
     lines = []
-    for cells in rows:
-        aligned = [cell.rjust(width) if 2 <= i < 7 else cell.ljust(width) for i, (cell, width) in enumerate(zip(cells, widths))]
-        lines.append('| ' + ' | '.join(aligned) + ' |')
+    for cells in [rows[0], line] + rows[1:]:
+        placed = [cell.rjust(width) if i in numbers else cell.ljust(width) for i, (cell, width) in enumerate(zip(cells, widths))]
+        lines.append('| ' + ' | '.join(placed) + ' |')
     return '\n'.join(lines)
 
 
@@ -142,6 +153,9 @@ def bars(found):
     for name in BARS:
         ratio = ratio_of(found, name, 'plain', 'ours')
         lines.append(f"- {name}: the plain gate's time is {ratio:.2f} times ours, at least {PLAIN_BARS[name]} is wanted: {verdict(ratio >= PLAIN_BARS[name])}.")
+    for name, most in zip(found.text_names, TEXT_BARS):
+        ratio = ratio_of(found, name, 'ours', 'selecting')
+        lines.append(f"- {name}: our time is {ratio:.2f} times Rust's, at most {most} is wanted: {verdict(ratio <= most)}.")
     return '\n'.join(lines)
 
 
@@ -170,6 +184,16 @@ def text_times(found):
         f'takes {rounded(saved)} ms.')
 
 
+def calls(found):
+    sides = list(found.seconds[found.call_names[0]])
+    rows = [['`pitch_gate_run_steps`', 'unit'] + sides + (['older to ours'] if len(sides) == 2 else [])]
+    for name in found.call_names:
+        for values, unit, scale in ((found.seconds[name], 'µs', 1e6), (found.copied[name], 'kB copied', 1e-3)):
+            shown = [rounded(values[side] * scale) for side in sides]
+            rows.append([name, unit] + shown + ([f'{values["older"] / values["ours"]:.2f}'] if len(sides) == 2 else []))
+    return aligned(rows, range(2, len(rows[0])))
+
+
 def behind(found):
     slower = [(name, ratio_of(found, name, 'ours', 'selecting')) for name in found.list_names + found.text_names]
     lines = ["Our time to Rust's, selecting, the largest first:", '']
@@ -182,4 +206,4 @@ def behind(found):
 
 
 # Each has its place in the page.
-PARTS = {'table': table_part, 'bars': bars, 'steps': step_times, 'texts': text_times, 'behind': behind}
+PARTS = {'table': table_part, 'bars': bars, 'steps': step_times, 'texts': text_times, 'calls': calls, 'behind': behind}

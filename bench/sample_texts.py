@@ -37,6 +37,32 @@ def full_saved_state():
     return ''.join(lines), len(lines)
 
 
+def small_call():
+    """Seven rules, a saved state of fifteen lines under them, and one step."""
+    rules = ['during 1 (week 1 5 0700 1900)', 'at 1 (inside (circle 4200 -1300 150))', 'at 2 (inside (circle 4200 -1300 150))', 'needs 2 1',
+             'needs 3 1', 'two-hands 1 2', 'before 3 2']
+    state = ['now 834217200', 'assigned 5 1', 'assigned 5 2', 'assigned 6 1', 'assigned 6 2', 'assigned 6 3', 'granted 2 1', 'granted 3 2',
+             'open 0 5', 'place 0 4210 -1290', 'active 0 1', 'active 0 2', 'open 1 6', 'place 1 4195 -1310', 'active 1 1']
+    return numbered(rules), ''.join(f'({line})\n' for line in state), '(access 0 1 7)\n'
+
+
+def fresh_call():
+    """The rules of the full input, a fresh state and one step."""
+    draw = Drawing(6)
+    return ''.join(draw.rule(i) for i in range(RULES)), '(now 0)\n', '(assign 5 1)\n'
+
+
+def full_call():
+    """As many rules as there may be that the full saved state keeps, that state, and an event that ends nothing."""
+    rules = [f'max-users {r} 64' for r in range(32)] + [f'max-permissions {r} 32' for r in range(32)]
+    rules += [f'{family} {r} {(r + 1) % 32}' for family in ('before', 'needs') for r in range(32)]
+    return numbered(rules), full_saved_state()[0], '(clock 3155759999)\n'
+
+
+def numbered(rules):
+    return ''.join(f'(rule {i + 1} ({rule}))\n' for i, rule in enumerate(rules))
+
+
 class Drawing:
     """Rules and steps drawn from a seed."""
 
