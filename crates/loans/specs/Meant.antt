@@ -1,4 +1,5 @@
--- Which loans the code means, and how it puts them together. No reader has to believe these: what the functions give is stated by specs/Loans.antt.
+-- Which loans a caller means: what `has_some` and `kept` promise is read with `meant`. And how the code puts loans together: no reader has to
+-- believe that, since the promises name `stored`.
 -- Assumes nothing.
 use Prim.Native.Nat.{_+_}
 use mathlib.Core.Bool.{Bool, not, _&&_}
@@ -19,6 +20,8 @@ meant (Others u v r) loan = not (isNamed u v r loan)
 meant (Longer time) loan = runsAt time loan
 meant (Before k) loan = ltb (key loan) k
 meant (After k) loan = ltb k (key loan)
+
+-- ---- on the way
 
 -- one more after the last
 unfoldable pub pushed : Loans → Loan → Loans
