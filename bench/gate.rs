@@ -1,6 +1,6 @@
-// A gate after document 01 to compare with, in two ways: PLAIN tests every rule over the whole state at each step, else only the rules that
-// the table selects are tested. It changes one state that is lent to it. It shares no code with crates/; the number of an answer has the form
-// of `Answer::word`.
+// A gate after document 01 and request 2026-01 to compare with, in two ways: PLAIN tests every rule over the whole state at each step, else
+// only the rules that the step selects are tested. It changes one state that is lent to it. It shares no code with crates/; the number of an
+// answer has the form of `Answer::word`.
 use std::process;
 
 // ---- what goes in
@@ -63,6 +63,8 @@ pub const CLOSE: u64 = 9;
 pub const MOVE: u64 = 10;
 pub const LOST: u64 = 11;
 pub const CLOCK: u64 = 12;
+pub const LEND: u64 = 13;
+pub const RECALL: u64 = 14;
 
 #[derive(Clone, Copy, Default)]
 pub struct Step {
@@ -70,6 +72,7 @@ pub struct Step {
     pub first: u64,
     pub second: u64,
     pub third: u64,
+    pub fourth: u64,
     pub x: i64,
     pub y: i64,
 }
@@ -82,10 +85,30 @@ pub struct Session {
     pub active: u32,
 }
 
+pub const MOST_LOANS: usize = 32;
+
+#[derive(Clone, Copy)]
+pub struct Loan {
+    pub lender: usize,
+    pub borrower: usize,
+    pub role: usize,
+    pub until: u64,
+}
+
+impl Loan {
+    fn key(&self) -> (usize, usize, usize) {
+        (self.lender, self.borrower, self.role)
+    }
+}
+
 pub struct State {
     pub time: u64,
     pub assigned: [u32; 64],
+    // "A role is held when assigned or on loan".
+    pub held: [u32; 64],
     pub granted: [u32; 32],
+    // In ascending order of their keys.
+    pub loans: Vec<Loan>,
     pub sessions: [Session; 32],
     pub did: [[u64; 32]; 32],
 }
@@ -95,7 +118,9 @@ impl State {
         State {
             time: 0,
             assigned: [0; 64],
+            held: [0; 64],
             granted: [0; 32],
+            loans: Vec::new(),
             sessions: [Session::default(); 32],
             did: [[0; 32]; 32],
         }
@@ -141,12 +166,16 @@ pub fn step<const PLAIN: bool>(state: &mut State, rules: &[Rule], step: &Step) -
         CLOSE => gate.session_event(first, |session| *session = Session::default()),
         MOVE => gate.session_event(first, |session| session.position = Some((step.x, step.y))),
         LOST => gate.session_event(first, |session| session.position = None),
-        _ => gate.clock(step.first),
+        CLOCK => gate.clock(step.first),
+        LEND => gate.lend(Loan { lender: first, borrower: second, role: third, until: step.fourth }),
+        _ => gate.recall((first, second, third)),
     }
 }
 
+// Inlined, for the call costs a step without rules a tenth of its speed; so is `event`.
+#[inline(always)]
 fn in_range(step: &Step) -> bool {
-    let Step { kind, first, second, third, x, y } = *step;
+    let Step { kind, first, second, third, fourth, x, y } = *step;
     match kind {
         ASSIGN | WITHDRAW => first < 64 && second < 32,
         GRANT | TAKE | ACTIVATE | DEACTIVATE => first < 32 && second < 32,
@@ -155,6 +184,8 @@ fn in_range(step: &Step) -> bool {
         FINISH | CLOSE | LOST => first < 32,
         MOVE => first < 32 && on_grid(x) && on_grid(y),
         CLOCK => first <= LAST_TIME,
+        LEND => first < 64 && second < 64 && third < 32 && fourth <= LAST_TIME,
+        RECALL => first < 64 && second < 64 && third < 32,
         _ => false,
     }
 }
@@ -165,14 +196,14 @@ struct Gate<'a, const PLAIN: bool> {
     kind: u64,
 }
 
-// 'State and steps': each kind with its checks in the table's order.
+// 'State and steps', and the request: each kind with its checks in their order.
 impl<const PLAIN: bool> Gate<'_, PLAIN> {
     fn assign(&mut self, user: usize, role: usize) -> u64 {
-        if has(self.state.assigned[user], role) {
+        if has(self.state.held[user], role) {
             return refused(24);
         }
-        self.state.assigned[user] |= 1 << role;
-        self.request(role, 0, |state| state.assigned[user] &= !(1 << role))
+        self.state.assign(user, role);
+        self.request(role, 0, |state| state.withdraw(user, role))
     }
 
     fn withdraw(&mut self, user: usize, role: usize) -> u64 {
@@ -182,8 +213,11 @@ impl<const PLAIN: bool> Gate<'_, PLAIN> {
         if self.state.sessions.iter().any(|session| session.user == Some(user) && has(session.active, role)) {
             return refused(27);
         }
-        self.state.assigned[user] &= !(1 << role);
-        self.request(role, 0, |state| state.assigned[user] |= 1 << role)
+        if self.state.loans.iter().any(|loan| loan.lender == user && loan.role == role) {
+            return refused(27);
+        }
+        self.state.withdraw(user, role);
+        self.request(role, 0, |state| state.assign(user, role))
     }
 
     fn grant(&mut self, role: usize, permission: usize) -> u64 {
@@ -217,7 +251,7 @@ impl<const PLAIN: bool> Gate<'_, PLAIN> {
         if has(self.state.sessions[session].active, role) {
             return refused(24);
         }
-        if !has(self.state.assigned[user], role) {
+        if !has(self.state.held[user], role) {
             return refused(26);
         }
         self.state.sessions[session].active |= 1 << role;
@@ -265,7 +299,40 @@ impl<const PLAIN: bool> Gate<'_, PLAIN> {
         if time < self.state.time {
             return refused(21);
         }
-        self.event(|state| state.time = time)
+        self.event(|state| {
+            state.time = time;
+            state.end_loans(|loan| loan.until <= time);
+        })
+    }
+
+    fn lend(&mut self, loan: Loan) -> u64 {
+        let Loan { lender, borrower, role, until } = loan;
+        if !has(self.state.assigned[lender], role) {
+            return refused(50);
+        }
+        if has(self.state.held[borrower], role) {
+            return refused(24);
+        }
+        if until <= self.state.time {
+            return refused(52);
+        }
+        if self.state.loans.len() == MOST_LOANS {
+            return refused(51);
+        }
+        let place = self.state.loans.partition_point(|other| other.key() < loan.key());
+        self.state.loans.insert(place, loan);
+        self.state.held[borrower] |= 1 << role;
+        self.request(role, 0, |state| {
+            state.loans.remove(place);
+            state.held[borrower] &= !(1 << role);
+        })
+    }
+
+    fn recall(&mut self, key: (usize, usize, usize)) -> u64 {
+        if self.state.loans.binary_search_by_key(&key, Loan::key).is_err() {
+            return refused(25);
+        }
+        self.event(|state| state.end_loans(|loan| loan.key() == key))
     }
 
     // A request whose target is made; `named` is the role or permission that the rules go by.
@@ -284,6 +351,7 @@ impl<const PLAIN: bool> Gate<'_, PLAIN> {
         packed(0, 0, 0, 0)
     }
 
+    #[inline(always)]
     fn event(&mut self, change: impl FnOnce(&mut State)) -> u64 {
         let before = self.state.active_pairs();
         change(self.state);
@@ -343,12 +411,16 @@ fn expect_kept<const PLAIN: bool>(state: &State, rules: &[Rule], otherwise: &str
     }
 }
 
-// The table's last column.
+// The table's last column; "Lend selects max-users r, max-roles and apart naming r; recall selects all needs." Lines of their own for these two
+// keep the match as quick as it was.
 fn selects(kind: u64, named: usize, rule: &Rule) -> bool {
     match (kind, rule) {
         (ASSIGN, Rule::Before(r, _)) | (ASSIGN, Rule::MaxUsers(r, _)) => *r == named,
         (ASSIGN, Rule::MaxRoles(_)) => true,
         (ASSIGN, Rule::Apart(r, q)) => *r == named || *q == named,
+        (LEND, Rule::MaxUsers(r, _)) => *r == named,
+        (LEND, Rule::MaxRoles(_)) => true,
+        (LEND, Rule::Apart(r, q)) => *r == named || *q == named,
         (WITHDRAW, Rule::Before(_, q)) => *q == named,
         (GRANT, Rule::MaxPermissions(r, _)) => *r == named,
         (ACTIVATE, Rule::MaxActive(_)) => true,
@@ -357,9 +429,46 @@ fn selects(kind: u64, named: usize, rule: &Rule) -> bool {
         (DEACTIVATE, Rule::Needs(_, q)) => *q == named,
         (ACCESS, Rule::TwoHands(p, q)) | (ACCESS, Rule::SameHand(p, q)) => *p == named || *q == named,
         (CLOSE..=CLOCK, Rule::Needs(_, _)) => true,
+        (RECALL, Rule::Needs(_, _)) => true,
         (MOVE | LOST, Rule::At(_, _, _)) => true,
         (CLOCK, Rule::During(_, _)) => true,
         _ => false,
+    }
+}
+
+// ---- changes of the state
+
+impl State {
+    pub fn assign(&mut self, user: usize, role: usize) {
+        self.assigned[user] |= 1 << role;
+        self.held[user] |= 1 << role;
+    }
+
+    // Who is assigned a role has it from nobody on loan.
+    fn withdraw(&mut self, user: usize, role: usize) {
+        self.assigned[user] &= !(1 << role);
+        self.held[user] &= !(1 << role);
+    }
+
+    // Some loans end, and every active role that is then not held is closed. Where none ends, all active roles are held as they were.
+    fn end_loans(&mut self, is_ending: impl Fn(&Loan) -> bool) {
+        let held = &mut self.held;
+        let count = self.loans.len();
+        self.loans.retain(|loan| {
+            let ends = is_ending(loan);
+            if ends {
+                held[loan.borrower] &= !(1 << loan.role);
+            }
+            !ends
+        });
+        if self.loans.len() == count {
+            return;
+        }
+        for session in &mut self.sessions {
+            if let Some(user) = session.user {
+                session.active &= held[user];
+            }
+        }
     }
 }
 
@@ -369,11 +478,11 @@ impl State {
     fn keeps(&self, rule: &Rule) -> bool {
         match *rule {
             Rule::Before(r, q) => self.assigned.iter().all(|&roles| !has(roles, r) || has(roles, q)),
-            Rule::MaxUsers(r, n) => self.assigned.iter().filter(|&&roles| has(roles, r)).count() as u32 <= n,
-            Rule::MaxRoles(n) => self.assigned.iter().all(|roles| roles.count_ones() <= n),
+            Rule::MaxUsers(r, n) => self.held.iter().filter(|&&roles| has(roles, r)).count() as u32 <= n,
+            Rule::MaxRoles(n) => self.held.iter().all(|roles| roles.count_ones() <= n),
             Rule::MaxPermissions(r, n) => self.granted[r].count_ones() <= n,
             Rule::MaxActive(n) => self.sessions.iter().all(|session| session.active.count_ones() <= n),
-            Rule::Apart(r, q) => self.assigned.iter().all(|&roles| !(has(roles, r) && has(roles, q))),
+            Rule::Apart(r, q) => self.held.iter().all(|&roles| !(has(roles, r) && has(roles, q))),
             Rule::ApartActive(r, q) => self.users_with_active(r) & self.users_with_active(q) == 0,
             Rule::Needs(r, q) => {
                 let roles = self.active_anywhere();

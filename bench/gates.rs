@@ -9,13 +9,15 @@ mod gate;
 
 use checksum::added;
 use gate::{
-    Rule, Shape, State, Step, Term, Week, ACCESS, ACTIVATE, ASSIGN, CLOCK, CLOSE, DEACTIVATE, FINISH, GRANT, LOST, MOVE, OPEN, TAKE, WITHDRAW,
+    Rule, Shape, State, Step, Term, Week, ACCESS, ACTIVATE, ASSIGN, CLOCK, CLOSE, DEACTIVATE, FINISH, GRANT, LEND, LOST, MOVE, OPEN, RECALL, TAKE,
+    WITHDRAW,
 };
 use std::hint::black_box;
 use std::{env, process};
 
 const BATCH: usize = 256;
 const HEAVY: u64 = 4;
+const WITH_LOANS: u64 = 5;
 
 fn main() {
     let words: Vec<String> = env::args().collect();
@@ -77,16 +79,44 @@ fn fill(list: u64, number: u64, seed: &mut u64, steps: &mut [Step; BATCH]) {
     }
 }
 
-// Of users one past the last too, so that 20 is met; of times some before the present one, so that 21 is.
+// Of users one past the last too, so that 20 is met; of times some before the present one, so that 21 and 52 are.
 fn step_of(list: u64, index: u64, [a, b, c, d]: [u64; 4]) -> Step {
-    let kind = if list == HEAVY { heavy_kind(a % 64) } else { mixed_kind(a % 64) };
+    let kind = match list {
+        HEAVY => heavy_kind(a % 64),
+        WITH_LOANS => kind_with_loans(a % 80),
+        _ => mixed_kind(a % 64),
+    };
+    if kind == LEND || kind == RECALL {
+        return loan_step(kind, index, [b, c, d]);
+    }
     let first = match kind {
-        ASSIGN | WITHDRAW => b % 65,
+        ASSIGN | WITHDRAW => assigned_user(list, b),
         CLOCK => index * 1000 + b % 40_000,
         _ => b % 32,
     };
     let second = if kind == OPEN { c % 65 } else { c % 32 };
-    Step { kind, first, second, third: d % 32, x: coordinate(c), y: coordinate(d) }
+    Step { kind, first, second, third: d % 32, fourth: 0, x: coordinate(c), y: coordinate(d) }
+}
+
+// lend and recall: the users from 48 on, who are assigned none, borrow eight roles, each user a role from the same lender every time. So a
+// loan is often granted, and a recall often names one.
+fn loan_step(kind: u64, index: u64, [b, c, d]: [u64; 3]) -> Step {
+    Step {
+        kind,
+        first: (c % 17 + d % 8) % 8,
+        second: 48 + c % 17,
+        third: d % 8 * 4,
+        fourth: index * 1000 + b % 1_000_000,
+        x: coordinate(c),
+        y: coordinate(d),
+    }
+}
+
+fn assigned_user(list: u64, drawn: u64) -> u64 {
+    if list == WITH_LOANS {
+        return drawn % 48;
+    }
+    drawn % 65
 }
 
 fn coordinate(drawn: u64) -> i64 {
@@ -108,6 +138,15 @@ fn mixed_kind(weight: u64) -> u64 {
         58..=60 => MOVE,
         61 => LOST,
         _ => CLOCK,
+    }
+}
+
+// The mixed kinds, and one step in five lends or recalls.
+fn kind_with_loans(weight: u64) -> u64 {
+    match weight {
+        0..=63 => mixed_kind(weight),
+        64..=71 => LEND,
+        _ => RECALL,
     }
 }
 

@@ -12,7 +12,9 @@ PICTURE = 'docs/speed.svg'
 RULE_COUNTS = [0, 8, 32, 128]
 MIXED = [f'`run`, mixed list, {count} rules' for count in RULE_COUNTS]
 HEAVY = '`run`, heavy list, 128 rules'
-LISTS = MIXED + [HEAVY]
+WITH_LOANS = '`run`, mixed list with loans, 128 rules'
+# By their numbers in gates.rs.
+LISTS = MIXED + [HEAVY, WITH_LOANS]
 
 # "a mixed list of steps costs at most 1.6 times what a Rust gate with references that selects costs .., a list heavy in rules at most 1.0
 # times .., and a Rust gate that tests every rule takes at least 5 and 4 times our time"
@@ -168,11 +170,13 @@ def ratio_of(found, name, first, second):
 
 
 def step_times(found):
-    none, most = [{side: found.seconds[name][side] * 1e9 for side in ('ours', 'selecting')} for name in (MIXED[0], MIXED[3])]
+    none, most, loans = [
+        {side: found.seconds[name][side] * 1e9 for side in ('ours', 'selecting')} for name in (MIXED[0], MIXED[3], WITH_LOANS)]
     return paragraph(
         f'A mixed step takes us {none["ours"]:.0f} ns without rules and {most["ours"]:.0f} ns with {RULE_COUNTS[3]}; the selecting Rust gate takes '
         f'{none["selecting"]:.0f} and {most["selecting"]:.0f} ns. So we pay {none["ours"] - none["selecting"]:.0f} ns more at a step without rules, and '
-        f'{most["ours"] - most["selecting"]:.0f} ns more with {RULE_COUNTS[3]}.')
+        f'{most["ours"] - most["selecting"]:.0f} ns more with {RULE_COUNTS[3]}. With loans, and {RULE_COUNTS[3]} rules, a step takes us '
+        f'{loans["ours"]:.0f} ns and the selecting Rust gate {loans["selecting"]:.0f} ns.')
 
 
 def text_times(found):

@@ -450,7 +450,7 @@ fn put_saved(form: u64, [a, b, c]: [i64; 3], state: &mut State) -> Option<()> {
     let (i, j, k) = (a as usize, b as usize, c as usize);
     match form {
         0 => state.time = a as u64,
-        1 => state.assigned[i] |= 1 << j,
+        1 => state.assign(i, j),
         2 => state.granted[i] |= 1 << j,
         3 => state.sessions[i] = Session { user: Some(j), ..Session::default() },
         4 => {
@@ -459,7 +459,7 @@ fn put_saved(form: u64, [a, b, c]: [i64; 3], state: &mut State) -> Option<()> {
         }
         5 => {
             let user = state.sessions[i].user?;
-            if !has(state.assigned[user], j) {
+            if !has(state.held[user], j) {
                 return None;
             }
             state.sessions[i].active |= 1 << j;

@@ -21,8 +21,9 @@
  *   - After a restart it goes on from the state that it stored last, and its first step is a `(clock t)`. Before the first
  *     run ever it starts from pitch_gate_fresh_state.
  *   - Time stands still between clocks. Hours are looked at when a `(clock t)` comes and when a role is activated, and at no
- *     other time, so give a clock at each start and end of hours, and one before each activation; more often does no harm.
- *     A time before the state's own is 21. A time too far ahead cannot be taken back.
+ *     other time; a loan ends when a clock reaches its time, and not before. So give a clock at each start and end of hours, at
+ *     the end of each loan, and one before each activation; more often does no harm. A time before the state's own is 21. A
+ *     time too far ahead cannot be taken back.
  *   - A saved text that was cut is not noticed where it is cut after a line feed: each beginning of a saved text that ends
  *     so may be a saved text itself. Store its length or a checksum beside it.
  *   - After a handover only one end may go on from the state: the library cannot see that two did.
@@ -72,7 +73,7 @@
 extern "C" {
 #endif
 
-#define PITCH_GATE_VERSION 10000 /* 1.0.0 */
+#define PITCH_GATE_VERSION 10100 /* 1.1.0 */
 
 /* The version of the archive that is linked, as PITCH_GATE_VERSION is of this header. */
 uint64_t pitch_gate_version(void);
@@ -88,22 +89,25 @@ enum pitch_gate_number {
     PITCH_GATE_SAME_TWICE = 13,                /* same role or permission twice in a rule */
     PITCH_GATE_TERM_OR_SHAPE_UNSOUND = 14,     /* no such date, A after B, h = k, box a > c or b > d */
     PITCH_GATE_OUT_OF_ORDER = 15,              /* saved line out of order or twice */
-    PITCH_GATE_EARLIER_LINE_MISSING = 16,      /* place or active without its open, or role not assigned */
+    PITCH_GATE_EARLIER_LINE_MISSING = 16,      /* place or active without its open, or role not held; a loan whose lender is not assigned the role, whose borrower holds it already, or whose time is not later than now */
     PITCH_GATE_STATE_BREAKS_RULE = 17,         /* saved state breaks a rule */
     PITCH_GATE_SPACE_TOO_SHORT = 18,           /* lent space shorter than the text or answers */
     PITCH_GATE_INPUT_TOO_LONG = 19,            /* program input too long */
 
-    /* never returned: in the answer to a step, `(no number rule selected)` */
+    /* in the answer to a step, `(no number rule selected)`; of these 51 alone is also returned, for a saved state */
     PITCH_GATE_STEP_OUT_OF_RANGE = 20,         /* step's number, its kind's included, outside its range */
     PITCH_GATE_TIME_PAST = 21,                 /* t before the present time */
     PITCH_GATE_SESSION_OPEN = 22,              /* session open */
     PITCH_GATE_SESSION_NOT_OPEN = 23,          /* session not open */
-    PITCH_GATE_ALREADY_THERE = 24,             /* already assigned, granted, active in this session */
-    PITCH_GATE_NOT_THERE = 25,                 /* not assigned, granted, active in this session */
-    PITCH_GATE_NOT_ASSIGNED = 26,              /* role not assigned to the session's user */
-    PITCH_GATE_ROLE_ACTIVE = 27,               /* role active in a session of the user */
+    PITCH_GATE_ALREADY_THERE = 24,             /* already held, granted, active in this session */
+    PITCH_GATE_NOT_THERE = 25,                 /* not assigned, granted, active in this session, or no such loan */
+    PITCH_GATE_NOT_ASSIGNED = 26,              /* role not held by the session's user */
+    PITCH_GATE_ROLE_ACTIVE = 27,               /* role active in a session of the user, or lent out by him */
     PITCH_GATE_NOT_CARRIED = 28,               /* no role active in the session carries the permission */
-    PITCH_GATE_RULE_BROKEN = 30                /* a rule broken in the target */
+    PITCH_GATE_RULE_BROKEN = 30,               /* a rule broken in the target */
+    PITCH_GATE_LENDER_NOT_ASSIGNED = 50,       /* lender not assigned the role */
+    PITCH_GATE_TOO_MANY_LOANS = 51,            /* 32 loans run; a thirty-third saved loan */
+    PITCH_GATE_LOAN_NOT_LATER = 52             /* loan's time not later than now */
 };
 
 /* The cause of a number in words, for people and logs. */
@@ -117,7 +121,7 @@ static inline const char *pitch_gate_cause(uint64_t number)
     case 13: return "same role or permission twice in a rule";
     case 14: return "no such date, A after B, h = k, box a > c or b > d";
     case 15: return "saved line out of order or twice";
-    case 16: return "place or active without its open, or role not assigned";
+    case 16: return "place or active without its open, or role not held; a loan whose lender is not assigned the role, whose borrower holds it already, or whose time is not later than now";
     case 17: return "saved state breaks a rule";
     case 18: return "lent space shorter than the text or answers";
     case 19: return "program input too long";
@@ -125,12 +129,15 @@ static inline const char *pitch_gate_cause(uint64_t number)
     case 21: return "t before the present time";
     case 22: return "session open";
     case 23: return "session not open";
-    case 24: return "already assigned, granted, active in this session";
-    case 25: return "not assigned, granted, active in this session";
-    case 26: return "role not assigned to the session's user";
-    case 27: return "role active in a session of the user";
+    case 24: return "already held, granted, active in this session";
+    case 25: return "not assigned, granted, active in this session, or no such loan";
+    case 26: return "role not held by the session's user";
+    case 27: return "role active in a session of the user, or lent out by him";
     case 28: return "no role active in the session carries the permission";
     case 30: return "a rule broken in the target";
+    case 50: return "lender not assigned the role";
+    case 51: return "32 loans run; a thirty-third saved loan";
+    case 52: return "loan's time not later than now";
     default: return "a number that this header does not know";
     }
 }
@@ -164,7 +171,7 @@ _Static_assert(sizeof(struct pitch_gate_report) == 32, "the library fills four n
 
 /* No accepted text is longer. */
 #define PITCH_GATE_RULES_MOST 8980   /* a rule list: 128 boxes */
-#define PITCH_GATE_STATE_MOST 997501 /* a saved state: every line of its forms, with the longest time, users and positions */
+#define PITCH_GATE_STATE_MOST 997821 /* a saved state: every role assigned or lent, 32 of them lent, the longest times, users and positions */
 
 /* Spaces that are always long enough; for a saved state PITCH_GATE_STATE_MOST, for a rule list PITCH_GATE_RULES_MOST. */
 #define PITCH_GATE_OUTPUT_MOST 131072 /* the output of pitch_gate_respond, the answers of pitch_gate_run_steps */
@@ -195,7 +202,7 @@ uint64_t pitch_gate_check_rules(const uint8_t *rules, size_t rules_length, struc
 uint64_t pitch_gate_copy_rules(const uint8_t *rules, size_t rules_length, uint8_t *copy, size_t copy_length,
                                struct pitch_gate_report *report);
 
-/* Reads a rule list and a saved state under it. Refused, in this order: 10 to 14 of the rules; 10, 11, 15 or 16 of the saved
+/* Reads a rule list and a saved state under it. Refused, in this order: 10 to 14 of the rules; 10, 11, 15, 16 or 51 of the saved
  * state with its first bad line; 17 with the lowest rule that the state breaks. */
 uint64_t pitch_gate_check_state(const uint8_t *rules, size_t rules_length, const uint8_t *state, size_t state_length,
                                 struct pitch_gate_report *report);

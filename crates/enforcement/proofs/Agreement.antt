@@ -2,13 +2,10 @@
 -- any state that 40 does not refuse, the same with the selected rules alone.
 -- Assumes nothing.
 use mathlib.Core.Path.{_≡_, refl, sym, ap, ap₂, _∙_, subst}
-use mathlib.Core.Bool.{Bool, true, false, not, cond, _&&_, _||_, and-not-self}
+use mathlib.Core.Bool.{Bool, true, false, not, cond, _&&_, _||_}
 use mathlib.Core.Logic.{_↔_}
 use mathlib.Core.List.{List, [], _∷_}
-use Prim.Native.Nat.{ℕ, suc, _+_}
-use Rattle.sets.specs.Sets.{member, difference, count}
-use Rattle.sets.proofs.Members.{member-difference}
-use Rattle.sets.proofs.Counting.{count-none}
+use Prim.Native.Nat.{ℕ, suc}
 use Rattle.sets.proofs.Booleans.{both, right-or}
 use Rattle.rules.specs.Acceptance.{every, rulesOf, listAccepted}
 use Rattle.rules.proofs.Every.{every-both, every-all}
@@ -33,6 +30,7 @@ use Rattle.enforcement.specs.Claims.{Along, end, then}
 use Rattle.enforcement.specs.declared.states.State.{State}
 use Rattle.steps.specs.declared.steps.Step.{Step}
 use Rattle.enforcement.specs.declared.states.Next.{Next}
+use Rattle.enforcement.proofs.EndedPairs.{none-ended}
 use Rattle.enforcement.proofs.Ranges.{Ranged, action-ranged}
 use Rattle.enforcement.proofs.Frame.{frame, frame-part}
 use Rattle.enforcement.proofs.Ending.{largest-unique, remaining-largest}
@@ -59,14 +57,6 @@ lowest-none test n (rule ∷ rules) e = go (test rule) e (lowest-none test (suc 
     go false h f = cc
 
 -- ---- a refused step ends no pair
-
-pub nothing-lost : (roles : ℕ) → count 32 (member (difference roles roles)) ≡ 0
-nothing-lost roles = count-none 32 (member (difference roles roles)) (λ r h. member-difference roles roles r ∙ and-not-self (member roles r))
-
-pub none-ended : (l : List ℕ) → pairCount (endedPairs l l) ≡ 0
-unfolding endedPairs pairCount
-none-ended [] = refl
-none-ended (roles ∷ rest) = ap₂ _+_ (nothing-lost roles) (none-ended rest)
 
 -- what is compared of a refusal
 abbrev refusal : State → ℕ → ℕ → Verdict

@@ -1,11 +1,11 @@
 -- Every answer of the gate fits the number that stands for it, so that the number taken apart gives the answer back.
 -- Assumes nothing.
 use mathlib.Core.Path.{_≡_, refl}
-use mathlib.Core.Bool.{Bool, true, false, not, cond, _&&_}
+use mathlib.Core.Bool.{Bool, true, false, not, cond, _&&_, _||_}
 use mathlib.Core.List.{List, [], _∷_, map}
 use Prim.Native.Nat.{ℕ, zero, suc, _+_, _*_, _≤_, _<_}
 use native.Mathlib.Omega.{arith}
-use lib.Dec.{ltb}
+use lib.Dec.{ltb, leb}
 use lib.ListN.{length, take}
 use Rattle.sets.specs.Sets.{member, difference, any, oneIf}
 use Rattle.sets.proofs.Booleans.{both}
@@ -21,8 +21,9 @@ use Rattle.steps.specs.Lowest.{lowest}
 use Rattle.steps.specs.Pairs.{endedPairs, pairCount}
 use Rattle.selection.specs.Selection.{selects, selectedNumber}
 use Rattle.steps.specs.declared.actions.Action.{Action}
-use Rattle.steps.specs.declared.actions.Action.the-variants.{Malformed, Assign, Withdraw, Grant, Take, Open, Activate, Deactivate, Access, Finish, Close, Move, Lost, Clock}
-use Rattle.enforcement.specs.States.{holdsRole, assignedRole, carries, isOpen, userOf, activeRole, stateAccepted}
+use Rattle.steps.specs.declared.actions.Action.the-variants.{Malformed, Assign, Withdraw, Grant, Take, Open, Activate, Deactivate, Access, Finish, Close, Move, Lost, Clock, Lend, Recall}
+use Rattle.loans.specs.Loans.{isNamed, someLoan}
+use Rattle.enforcement.specs.States.{holdsRole, assignedRole, lentOutRole, loansOf, carries, isOpen, userOf, activeRole, stateAccepted}
 use Rattle.steps.specs.Steps.{isEvent, actionOf}
 use Rattle.enforcement.specs.Steps.{Checked, passes, refuses, refuseIf, check, target}
 use Rattle.enforcement.specs.Gate.{testsSelected, requestNext, passedNext, checkedNext, decide, stepOf}
@@ -47,7 +48,7 @@ check-numbered : (s : State) (action : Action) → Numbered (check s action)
 unfolding check
 check-numbered s Malformed = (omega arith, omega arith, λ e. omega arith)
 check-numbered s (Assign u r) = refuse-numbered (holdsRole s u r) 24 passes (omega arith, omega arith, λ e. omega arith) tt
-check-numbered s (Withdraw u r) = refuse-numbered (not (assignedRole s u r)) 25 (refuseIf (isActiveFor (s .sessions) (s .active) u r) 27 passes) (omega arith, omega arith, λ e. omega arith) (refuse-numbered (isActiveFor (s .sessions) (s .active) u r) 27 passes (omega arith, omega arith, λ e. omega arith) tt)
+check-numbered s (Withdraw u r) = refuse-numbered (not (assignedRole s u r)) 25 (refuseIf (isActiveFor (s .sessions) (s .active) u r || lentOutRole s u r) 27 passes) (omega arith, omega arith, λ e. omega arith) (refuse-numbered (isActiveFor (s .sessions) (s .active) u r || lentOutRole s u r) 27 passes (omega arith, omega arith, λ e. omega arith) tt)
 check-numbered s (Grant r p) = refuse-numbered (carries s r p) 24 passes (omega arith, omega arith, λ e. omega arith) tt
 check-numbered s (Take r p) = refuse-numbered (not (carries s r p)) 25 passes (omega arith, omega arith, λ e. omega arith) tt
 check-numbered s (Open i u) = refuse-numbered (isOpen s i) 22 passes (omega arith, omega arith, λ e. omega arith) tt
@@ -59,6 +60,12 @@ check-numbered s (Close i) = refuse-numbered (not (isOpen s i)) 23 passes (omega
 check-numbered s (Move i point) = refuse-numbered (not (isOpen s i)) 23 passes (omega arith, omega arith, λ e. omega arith) tt
 check-numbered s (Lost i) = refuse-numbered (not (isOpen s i)) 23 passes (omega arith, omega arith, λ e. omega arith) tt
 check-numbered s (Clock t) = refuse-numbered (ltb t (s .time)) 21 passes (omega arith, omega arith, λ e. omega arith) tt
+check-numbered s (Lend u v r t) =
+    refuse-numbered (not (assignedRole s u r)) 50 _ (omega arith, omega arith, λ e. omega arith)
+    (refuse-numbered (holdsRole s v r) 24 _ (omega arith, omega arith, λ e. omega arith)
+    (refuse-numbered (leb t (s .time)) 52 _ (omega arith, omega arith, λ e. omega arith)
+    (refuse-numbered (leb 32 (s .loans .count)) 51 passes (omega arith, omega arith, λ e. omega arith) tt)))
+check-numbered s (Recall u v r) = refuse-numbered (not (someLoan (isNamed u v r) (loansOf s))) 25 passes (omega arith, omega arith, λ e. omega arith) tt
 
 -- ---- the numbers of rules and pairs
 

@@ -42,7 +42,7 @@ use Rattle.enforcement.proofs.Holding.{rule-means, obeys-means}
 use Rattle.enforcement.proofs.Kept.{fresh-accepted}
 use Rattle.enforcement.proofs.Frame.{closed-inactive}
 use Rattle.enforcement.proofs.Targets.{close-target, move-target, lost-target}
-use Rattle.enforcement.proofs.Causes.{check-below, same-refusal, not-granted, granted-step, refused-leaves, lowest-means, lowest-number}
+use Rattle.enforcement.proofs.Causes.{check-other, same-refusal, not-granted, granted-step, refused-leaves, lowest-means, lowest-number}
 use Rattle.enforcement.proofs.Agreement.{agreement, rules-hold, step-plain, step-keeps, along-run, along-fresh, all-hold-fresh}
 use Rattle.enforcement.proofs.Reaching.{step-accepted}
 use Rattle.enforcement.proofs.Carried.{close-empties}
@@ -107,7 +107,7 @@ module _ (list : RuleList) (listed : listAccepted list ≡ true) where
       some = StaticSeparation 0 0
 
   plain-named : (s : State) (step : Step) (v : Verdict) → Plain (rulesOf list) s (actionOf step) v → v .decision ≡ refused 30 → (n : ℕ) × (v .rule ≡ suc n) × LowestIs (rulesOf list) (target s (actionOf step)) n
-  plain-named s step v (refusing number e) d = let low = check-below s (actionOf step) number e in let same = same-refusal number 30 d in absurd (omega arith)
+  plain-named s step v (refusing number e) d = absurd (check-other s (actionOf step) number e .0 (same-refusal number 30 d))
   plain-named s step v (breaking rule e request low) d =
       let t = lowest-number (λ k. ruleHolds k (target s (actionOf step))) (rulesOf list) rule low in
       (t .0, t .1, lowest-is (target s (actionOf step)) (t .0) .0 (low ∙ ap BrokenAt (t .1)))

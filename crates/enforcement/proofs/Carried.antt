@@ -19,7 +19,7 @@ use Rattle.rules.specs.declared.lists.RuleList.{RuleList}
 use Rattle.steps.specs.Steps.{actionOf, isEvent}
 use Rattle.steps.specs.Pairs.{endedPairs, countPairs}
 use Rattle.steps.specs.declared.actions.Action.{Action}
-use Rattle.steps.specs.declared.actions.Action.the-variants.{Malformed, Assign, Withdraw, Grant, Take, Open, Activate, Deactivate, Access, Finish, Close, Move, Lost, Clock}
+use Rattle.steps.specs.declared.actions.Action.the-variants.{Malformed, Assign, Withdraw, Grant, Take, Open, Activate, Deactivate, Access, Finish, Close, Move, Lost, Clock, Lend, Recall}
 use Rattle.steps.specs.declared.steps.Step.{Step}
 use Rattle.steps.proofs.PairCounts.{ended-means, ended-count, pairs-none, pairs-one, pairs-split}
 use Rattle.selection.specs.Selection.{selects, selectedNumber}
@@ -31,14 +31,13 @@ use Rattle.enforcement.specs.Decisions.{granted, refused}
 use Rattle.enforcement.specs.Gate.{stepOf, decisionOf, selectedOf, endedOf}
 use Rattle.enforcement.specs.Narrow.{Narrow, refusing, breaking, taking, ending}
 use Rattle.enforcement.specs.Reached.{Typed}
-use Rattle.enforcement.specs.Claims.{Unclosed}
+use Rattle.enforcement.specs.Claims.{Closes, Unclosed}
 use Rattle.enforcement.specs.declared.states.State.{State}
 use Rattle.enforcement.specs.declared.states.Next.{Next}
 use Rattle.enforcement.proofs.Ranges.{Ranged, action-ranged}
-use Rattle.enforcement.proofs.Frame.{not-refused}
-use Rattle.enforcement.proofs.Kept.{later-passes}
+use Rattle.enforcement.proofs.Checks.{not-refused, later-passes}
 use Rattle.enforcement.proofs.Targets.{activate-target, deactivate-target, event-pairs}
-use Rattle.enforcement.proofs.Causes.{by-outcome, check-below, same-refusal, not-granted, granted-step, refused-forty}
+use Rattle.enforcement.proofs.Causes.{by-outcome, check-other, same-refusal, not-granted, granted-step, refused-forty}
 use Rattle.enforcement.proofs.Agreement.{narrow-step}
 
 -- ---- the number selected
@@ -51,7 +50,7 @@ number-selected list s step =
     (λ number h.
     ⊎-elim
     (λ d. absurd (not-granted number (sym d)))
-    (λ d. let low = check-below s (actionOf step) number h in let same = same-refusal number 30 d in absurd (omega arith)))
+    (λ d. absurd (check-other s (actionOf step) number h .0 (same-refusal number 30 d))))
     (λ rule pass event h d. refl) (λ after taken d. refl)
 
 -- which is how many of the list's places hold a rule that the table's row names
@@ -99,13 +98,15 @@ request-keeps s (Close j) typed numbers request other i r h = absurd (true≢fal
 request-keeps s (Move j point) typed numbers request other i r h = absurd (true≢false request)
 request-keeps s (Lost j) typed numbers request other i r h = absurd (true≢false request)
 request-keeps s (Clock t) typed numbers request other i r h = absurd (true≢false request)
+request-keeps s (Lend u v q t) typed numbers request other i r h = h
+request-keeps s (Recall u v q) typed numbers request other i r h = absurd (true≢false request)
 
 -- after an event only pairs that it did not itself close are active
-event-part : (rules : List Rule) (s : State) (action : Action) (given : Next) → Narrow rules s action given → isEvent action ≡ true → decisionOf (given .answer) ≡ granted → (i r : ℕ) → activeRole (given .state) i r ≡ true → Unclosed s action i r
-event-part rules s action given (refusing number e) event grants i r h = absurd (not-granted number (sym grants))
-event-part rules s action given (breaking rule e request low) event grants i r h = absurd (true≢false (sym event ∙ request))
-event-part rules s action given (taking e request low) event grants i r h = absurd (true≢false (sym event ∙ request))
-event-part rules s action given (ending l e ev kept) event grants i r h = event-pairs s action ev i r .0 (kept .isPart .within i r h)
+event-part : (rules : List Rule) (s : State) (action : Action) (given : Next) → Typed s → Narrow rules s action given → isEvent action ≡ true → decisionOf (given .answer) ≡ granted → (i r : ℕ) → activeRole (given .state) i r ≡ true → Unclosed s action i r
+event-part rules s action given typed (refusing number e) event grants i r h = absurd (not-granted number (sym grants))
+event-part rules s action given typed (breaking rule e request low) event grants i r h = absurd (true≢false (sym event ∙ request))
+event-part rules s action given typed (taking e request low) event grants i r h = absurd (true≢false (sym event ∙ request))
+event-part rules s action given typed (ending l e ev kept) event grants i r h = event-pairs s action typed ev i r .0 (kept .isPart .within i r h)
 
 module _ (list : RuleList) (s : State) (step : Step) (typed : Typed s) (grants : decisionOf (stepOf list s step .answer) ≡ granted) where
   accepted : (listAccepted list ≡ true) × (stateAccepted s ≡ true)
@@ -162,7 +163,7 @@ module _ (list : RuleList) (s : State) (step : Step) (typed : Typed s) (grants :
   close-empties i e r =
       not-so (activeRole (stepOf list s step .state) i r)
       (λ h.
-      event-part (rulesOf list) s (actionOf step) (stepOf list s step) (narrow-step list s step typed (accepted .0) (accepted .1)) (ap isEvent e) grants i r h .1 e)
+      event-part (rulesOf list) s (actionOf step) (stepOf list s step) typed (narrow-step list s step typed (accepted .0) (accepted .1)) (ap isEvent e) grants i r h .1 (subst (λ (action : Action). Closes s action i r) (sym e) refl))
 
   -- "a closed session's own included": each role that was active in it is ended
   pub close-ends : (i : ℕ) → actionOf step ≡ Close i → (r : ℕ) → activeRole s i r ≡ true → hasRole (endedPairs (s .active) (stepOf list s step .state .active)) i r ≡ true

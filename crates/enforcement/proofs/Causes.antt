@@ -1,7 +1,7 @@
 -- Each refusal is given for its own cause alone: the first cause of the step's checks, in the table's order.
 -- Assumes nothing.
 use mathlib.Core.Path.{_≡_, refl, sym, ap, _∙_}
-use mathlib.Core.Bool.{Bool, true, false, not, cond, _&&_, false≢true}
+use mathlib.Core.Bool.{Bool, true, false, not, cond, _&&_, _||_, false≢true}
 use mathlib.Core.Logic.{_↔_, _⊎_, inl, inr, ⊎-elim}
 use mathlib.Core.List.{List, [], _∷_}
 use Prim.Native.Nat.{ℕ, zero, suc, _+_, _<_}
@@ -12,7 +12,7 @@ use lib.Dec.{eqb, ltb, leb, lit<}
 use lib.ListN.{length, getD}
 use borrow.Author.Tests.{eqb-true, eqb-false, eq-eqb, ltb-true, ltb-false, lt-ltb, leb-true, leb-false, le-leb, not-true}
 use Rattle.sets.specs.Sets.{isEmpty, all, any}
-use Rattle.sets.proofs.Booleans.{both, both-true, clash, not-so, of-and-false}
+use Rattle.sets.proofs.Booleans.{both, both-true, clash, not-so, of-and-false, left-or, right-or, of-or}
 use Rattle.sets.proofs.Bounded.{of-all, of-all-false, any-of, of-any}
 use Rattle.sets.proofs.Members.{member-empty}
 use Rattle.sets.proofs.Width.{some-member}
@@ -30,15 +30,21 @@ use Rattle.steps.specs.declared.lowest.Lowest.the-variants.{Unbroken, BrokenAt}
 use Rattle.steps.specs.Lowest.{lowest}
 use Rattle.selection.specs.Selection.{selects, selectedNumber}
 use Rattle.steps.specs.declared.actions.Action.{Action}
-use Rattle.steps.specs.declared.actions.Action.the-variants.{Malformed, Assign, Withdraw, Grant, Take, Open, Activate, Deactivate, Access, Finish, Close, Move, Lost, Clock}
+use Rattle.steps.specs.declared.actions.Action.the-variants.{Malformed, Assign, Withdraw, Grant, Take, Open, Activate, Deactivate, Access, Finish, Close, Move, Lost, Clock, Lend, Recall}
 use Rattle.steps.specs.Steps.{isTime}
-use Rattle.enforcement.specs.States.{assignedRole, holdsRole, carries, isOpen, userOf, positionOf, activeRole, isUnknown, sessionAccepted, stateAccepted}
+use Rattle.loans.specs.Loans.{isNamed, someLoan, acceptedFrom, loansAccepted}
+use Rattle.loans.specs.declared.Loan.{Loan}
+use Rattle.loans.proofs.Keeping.{some-means}
+use Rattle.loans.proofs.Ranges.{in-range-means}
+use Rattle.loans.proofs.Order.{accepted-in-range}
+use Rattle.loans.proofs.Unaccepted.{unaccepted-loans, accepted-rises}
+use Rattle.enforcement.specs.States.{assignedRole, lentOutRole, loansOf, holdsRole, carries, isOpen, userOf, positionOf, activeRole, isUnknown, sessionAccepted, stateAccepted}
 use Rattle.steps.specs.Steps.{ranged, actionOf, isEvent}
 use Rattle.enforcement.specs.Steps.{Checked, passes, refuses, refuseIf, check, target}
 use Rattle.enforcement.specs.Decisions.{granted, refused}
 use Rattle.enforcement.specs.Gate.{testsSelected, grantedNext, refusedNext, requestNext, passedNext, checkedNext, decide, stepOf, decisionOf, namedRule}
 use Rattle.enforcement.specs.Narrow.{lowestSelected}
-use Rattle.enforcement.specs.Causes.{Writes, Cause, malformed, past, open-already, activate-closed, deactivate-closed, access-closed, close-closed, move-closed, lost-closed, assign-already, grant-already, activate-already, withdraw-not, take-not, deactivate-not, activate-unheld, withdraw-active, access-uncarried, checksOf, FirstCause, Unaccepted, late, user-past, off-grid, keeps-user, keeps-position, keeps-role}
+use Rattle.enforcement.specs.Causes.{Writes, Cause, malformed, past, open-already, activate-closed, deactivate-closed, access-closed, close-closed, move-closed, lost-closed, assign-already, grant-already, activate-already, withdraw-not, take-not, deactivate-not, activate-unheld, withdraw-active, access-uncarried, lend-already, recall-none, withdraw-lent-out, lend-unassigned, lend-full, lend-ended, checksOf, FirstCause, Unaccepted, late, user-past, off-grid, keeps-user, keeps-position, keeps-role, too-many-loans, loan-past, loans-unordered}
 use Rattle.enforcement.specs.Claims.{TakesTarget}
 use Rattle.enforcement.specs.declared.states.State.{State}
 use Rattle.steps.specs.declared.steps.Step.{Step}
@@ -81,7 +87,9 @@ module _ (step : Step) where
       (of-kind 9 (ltb (step .first) 32) (Close _) _ (λ kind n. (kind, refl, n))
       (of-kind 10 (ltb (step .first) 32 && (onGrid (step .x) && onGrid (step .y))) (Move _ _) _ (λ kind n. (kind, refl, refl, refl, n .0, n .1))
       (of-kind 11 (ltb (step .first) 32) (Lost _) _ (λ kind n. (kind, refl, n))
-      (of-kind 12 (isTime (step .first)) (Clock _) _ (λ kind n. (kind, refl, n)) (λ n. inl refl))))))))))))) (action-ranged step)
+      (of-kind 12 (isTime (step .first)) (Clock _) _ (λ kind n. (kind, refl, n))
+      (of-kind 13 (ltb (step .first) 64 && (ltb (step .second) 64 && (ltb (step .third) 32 && isTime (step .fourth)))) (Lend _ _ _ _) _ (λ kind n. (kind, refl, refl, refl, refl, n .0, n .1, n .2, n .3))
+      (of-kind 14 (ltb (step .first) 64 && (ltb (step .second) 64 && ltb (step .third) 32)) (Recall _ _ _) _ (λ kind n. (kind, refl, refl, refl, n .0, n .1, n .2)) (λ n. inl refl))))))))))))))) (action-ranged step)
 
   -- and what a step writes is read of it
   read-as : (action : Action) → Writes step action → actionOf step ≡ action
@@ -100,6 +108,8 @@ module _ (step : Step) where
   read-as (Move i point) w = rw (w .0, w .1, w .2, w .3, lt-ltb i 32 (w .4), w .5)
   read-as (Lost i) w = rw (w .0, w .1, lt-ltb i 32 (w .2))
   read-as (Clock t) w = rw (w .0, w .1, le-leb t 3155759999 (w .2))
+  read-as (Lend u v r t) w = rw (w .0, w .1, w .2, w .3, w .4, lt-ltb u 64 (w .5), lt-ltb v 64 (w .6), lt-ltb r 32 (w .7), le-leb t 3155759999 (w .8))
+  read-as (Recall u v r) w = rw (w .0, w .1, w .2, w .3, lt-ltb u 64 (w .4), lt-ltb v 64 (w .5), lt-ltb r 32 (w .6))
 
 -- a step is read as the action that it writes
 pub written : (step : Step) (action : Action) → (action ≡ Malformed → ⊥) → (actionOf step ≡ action) ↔ Writes step action
@@ -128,6 +138,18 @@ unless test number n later present = first-cause (not test) number n later (λ h
 
 no-more : (n : ℕ) → (passes ≡ refuses n) ↔ ⊥
 no-more n = ((λ h. let distinct : _≡_ {A = ℕ} 0 1 = cc in omega arith), λ none. absurd none)
+
+-- the loan of r by u to v
+of-named : (u v r : ℕ) (loan : Loan) → isNamed u v r loan ≡ true → (loan .lender ≡ u) × (loan .borrower ≡ v) × (loan .role ≡ r)
+of-named u v r loan h =
+    let t = both (eqb (loan .lender) u) (eqb (loan .borrower) v && eqb (loan .role) r) h in
+    let rest = both (eqb (loan .borrower) v) (eqb (loan .role) r) (t .1) in
+    (eqb-true (loan .lender) u (t .0), eqb-true (loan .borrower) v (rest .0), eqb-true (loan .role) r (rest .1))
+
+named-of : (u v r : ℕ) (loan : Loan) → loan .lender ≡ u → loan .borrower ≡ v → loan .role ≡ r → isNamed u v r loan ≡ true
+named-of u v r loan lender borrower role =
+    both-true (eqb (loan .lender) u) (eqb (loan .borrower) v && eqb (loan .role) r) (eq-eqb (loan .lender) u lender)
+    (both-true (eqb (loan .borrower) v) (eqb (loan .role) r) (eq-eqb (loan .borrower) v borrower) (eq-eqb (loan .role) r role))
 
 -- each cause is what its line says
 module _ {s : State} where
@@ -176,10 +198,35 @@ module _ {s : State} where
   of-activate-unheld : {i r : ℕ} → Cause s (Activate i r) 26 → holdsRole s (userOf s i) r ≡ false
   of-activate-unheld (activate-unheld i r h) = h
 
-  of-withdraw-active : {u r : ℕ} → Cause s (Withdraw u r) 27 → isActiveFor (s .sessions) (s .active) u r ≡ true
+  of-withdraw-active : {u r : ℕ} → Cause s (Withdraw u r) 27 → (isActiveFor (s .sessions) (s .active) u r || lentOutRole s u r) ≡ true
   unfolding isActiveFor
   of-withdraw-active (withdraw-active u r i low user active) =
-      any-of 32 i _ low (both-true (eqb (userOf s i) u) (activeRole s i r) (eq-eqb (userOf s i) u user) active)
+      left-or (isActiveFor (s .sessions) (s .active) u r) (lentOutRole s u r)
+      (any-of 32 i _ low (both-true (eqb (userOf s i) u) (activeRole s i r) (eq-eqb (userOf s i) u user) active))
+  of-withdraw-active (withdraw-lent-out u r loan member lender role) =
+      right-or (isActiveFor (s .sessions) (s .active) u r) (lentOutRole s u r)
+      (some-means (λ other. eqb (other .lender) u && eqb (other .role) r) (loansOf s) .1
+      (loan, member, both-true (eqb (loan .lender) u) (eqb (loan .role) r) (eq-eqb (loan .lender) u lender) (eq-eqb (loan .role) r role)))
+
+  of-lend-unassigned : {u v r t : ℕ} → Cause s (Lend u v r t) 50 → assignedRole s u r ≡ false
+  of-lend-unassigned (lend-unassigned u v r t h) = h
+
+  of-lend-already : {u v r t : ℕ} → Cause s (Lend u v r t) 24 → holdsRole s v r ≡ true
+  of-lend-already (lend-already u v r t h) = h
+
+  of-lend-ended : {u v r t : ℕ} → Cause s (Lend u v r t) 52 → leb t (s .time) ≡ true
+  of-lend-ended (lend-ended u v r t h) = le-leb t (s .time) h
+
+  of-lend-full : {u v r t : ℕ} → Cause s (Lend u v r t) 51 → leb 32 (s .loans .count) ≡ true
+  of-lend-full (lend-full u v r t h) = le-leb 32 (s .loans .count) h
+
+  of-recall-none : {u v r : ℕ} → Cause s (Recall u v r) 25 → someLoan (isNamed u v r) (loansOf s) ≡ false
+  of-recall-none (recall-none u v r h) =
+      not-so _
+      (λ e.
+      let some = some-means (isNamed u v r) (loansOf s) .0 e in
+      let named = of-named u v r (some .0) (some .2) in
+      h (some .0) (some .1) (named .0) (named .1) (named .2))
 
   of-access-uncarried : {i p o : ℕ} → Cause s (Access i p o) 28 → any 32 (λ r. activeRole s i r && carries s r p) ≡ false
   of-access-uncarried (access-uncarried i p o h) =
@@ -196,8 +243,15 @@ own-cause s Malformed n = first-cause true 20 n passes (λ h. malformed, λ c. r
 own-cause s (Assign u r) n = first-cause (holdsRole s u r) 24 n passes (assign-already u r, of-assign-already) (no-more n)
 own-cause s (Withdraw u r) n =
     unless (assignedRole s u r) 25 n _ (withdraw-not u r, of-withdraw-not)
-    (first-cause (isActiveFor (s .sessions) (s .active) u r) 27 n passes (active-in, of-withdraw-active) (no-more n))
+    (first-cause (isActiveFor (s .sessions) (s .active) u r || lentOutRole s u r) 27 n passes
+    (λ h. ⊎-elim active-in lent-out (of-or (isActiveFor (s .sessions) (s .active) u r) (lentOutRole s u r) h), of-withdraw-active) (no-more n))
   where
+    lent-out : lentOutRole s u r ≡ true → Cause s (Withdraw u r) 27
+    lent-out h =
+        let some = some-means (λ loan. eqb (loan .lender) u && eqb (loan .role) r) (loansOf s) .0 h in
+        let two = both (eqb (some .0 .lender) u) (eqb (some .0 .role) r) (some .2) in
+        withdraw-lent-out u r (some .0) (some .1) (eqb-true (some .0 .lender) u (two .0)) (eqb-true (some .0 .role) r (two .1))
+
     active-in : isActiveFor (s .sessions) (s .active) u r ≡ true → Cause s (Withdraw u r) 27
     active-in h =
         let some = of-any 32 (λ i. eqb (userOf s i) u && activeRole s i r) h in
@@ -227,6 +281,18 @@ own-cause s (Close i) n = unless (isOpen s i) 23 n passes (close-closed i, of-cl
 own-cause s (Move i point) n = unless (isOpen s i) 23 n passes (move-closed i point, of-move-closed) (no-more n)
 own-cause s (Lost i) n = unless (isOpen s i) 23 n passes (lost-closed i, of-lost-closed) (no-more n)
 own-cause s (Clock t) n = first-cause (ltb t (s .time)) 21 n passes (λ h. past t (ltb-true t (s .time) h), of-past) (no-more n)
+own-cause s (Lend u v r t) n =
+    unless (assignedRole s u r) 50 n _ (lend-unassigned u v r t, of-lend-unassigned)
+    (first-cause (holdsRole s v r) 24 n _ (lend-already u v r t, of-lend-already)
+    (first-cause (leb t (s .time)) 52 n _ (λ h. lend-ended u v r t (leb-true t (s .time) h), of-lend-ended)
+    (first-cause (leb 32 (s .loans .count)) 51 n passes (λ h. lend-full u v r t (leb-true 32 (s .loans .count) h), of-lend-full) (no-more n))))
+own-cause s (Recall u v r) n =
+    unless (someLoan (isNamed u v r) (loansOf s)) 25 n passes (none, of-recall-none) (no-more n)
+  where
+    none : someLoan (isNamed u v r) (loansOf s) ≡ false → Cause s (Recall u v r) 25
+    none h =
+        recall-none u v r
+        (λ loan member lender borrower role. clash (some-means (isNamed u v r) (loansOf s) .1 (loan, member, named-of u v r loan lender borrower role)) h)
 
 -- ---- the lowest broken rule
 
@@ -305,23 +371,44 @@ module _ (s : State) where
       let rest = both (isUnknown (positionOf s i)) (isEmpty (wordAt (s .active) i)) (t .1) in
       (eqb-true (userOf s i) 0 (t .0), of-isUnknown (positionOf s i) (rest .0), eqb-true (wordAt (s .active) i) 0 (rest .1))
 
-  not-accepted : Unaccepted s → leb (s .time) 3155759999 ≡ true → ((i : ℕ) → i < 32 → acceptedAt i ≡ true) → ⊥
-  not-accepted (late h) time each = let t = leb-true (s .time) 3155759999 time in omega arith
-  not-accepted (user-past i low opened h) time each = let t = open-session i opened (each i low) in omega arith
-  not-accepted (off-grid i low opened h) time each = clash (open-session i opened (each i low) .1) h
-  not-accepted (keeps-user i low closed h) time each = h (closed-session i closed (each i low) .0)
-  not-accepted (keeps-position i low closed h) time each = h (closed-session i closed (each i low) .1)
-  not-accepted (keeps-role i r low closed h) time each = clash h (rw (closed-session i closed (each i low) .2) (member-empty r))
+  -- what is wrong with the loans
+  at-loans : loansAccepted (s .loans) ≡ false → Unaccepted s
+  unfolding loansAccepted
+  at-loans h =
+      ⊎-elim (λ e. too-many-loans (leb-false (s .loans .count) 32 e))
+      (λ e. ⊎-elim (λ t. loan-past (t .0) (t .1) (t .2)) (λ t. loans-unordered (t .0) (t .1 .0) (t .1 .1)) (unaccepted-loans (loansOf s) e))
+      (of-and-false (leb (s .loans .count) 32) (acceptedFrom 0 (loansOf s)) h)
 
--- 40 refuses a state exactly where a field is outside its range or a closed session keeps something
+  not-accepted : Unaccepted s → leb (s .time) 3155759999 ≡ true → loansAccepted (s .loans) ≡ true → ((i : ℕ) → i < 32 → acceptedAt i ≡ true) → ⊥
+  unfolding loansAccepted
+  not-accepted (late h) time loans each = let t = leb-true (s .time) 3155759999 time in omega arith
+  not-accepted (user-past i low opened h) time loans each = let t = open-session i opened (each i low) in omega arith
+  not-accepted (off-grid i low opened h) time loans each = clash (open-session i opened (each i low) .1) h
+  not-accepted (keeps-user i low closed h) time loans each = h (closed-session i closed (each i low) .0)
+  not-accepted (keeps-position i low closed h) time loans each = h (closed-session i closed (each i low) .1)
+  not-accepted (keeps-role i r low closed h) time loans each = clash h (rw (closed-session i closed (each i low) .2) (member-empty r))
+  not-accepted (too-many-loans h) time loans each = let few = leb-true (s .loans .count) 32 (both (leb (s .loans .count) 32) (acceptedFrom 0 (loansOf s)) loans .0) in omega arith
+  not-accepted (loan-past loan member outside) time loans each =
+      let numbers = in-range-means loan .0 (accepted-in-range 0 loan (loansOf s) (both (leb (s .loans .count) 32) (acceptedFrom 0 (loansOf s)) loans .1) member) in
+      ⊎-elim (λ h. omega arith) (λ rest. ⊎-elim (λ h. omega arith) (λ more. ⊎-elim (λ h. omega arith) (λ h. omega arith) more) rest) outside
+  not-accepted (loans-unordered k below h) time loans each =
+      let rises = accepted-rises 0 (loansOf s) (both (leb (s .loans .count) 32) (acceptedFrom 0 (loansOf s)) loans .1) k below in omega arith
+
+-- 40 refuses a state exactly where a field is outside its range, a closed session keeps something, or the loans are too many or out of order
 pub unaccepted : (s : State) → (stateAccepted s ≡ false) ↔ Unaccepted s
 unfolding stateAccepted
 unaccepted s = (
   λ h.
       ⊎-elim (λ e. late (leb-false (s .time) 3155759999 e))
+      (λ rest.
+      ⊎-elim (at-loans s)
       (λ e. let t = of-all-false 32 (acceptedAt s) e in at-session s (t .0) (t .1) (t .2))
-      (of-and-false (isTime (s .time)) (all 32 (acceptedAt s)) h),
-  λ cause. not-so _ (λ h. let t = both (isTime (s .time)) (all 32 (acceptedAt s)) h in not-accepted s cause (t .0) (of-all 32 (acceptedAt s) (t .1))),
+      (of-and-false (loansAccepted (s .loans)) (all 32 (acceptedAt s)) rest))
+      (of-and-false (isTime (s .time)) (loansAccepted (s .loans) && all 32 (acceptedAt s)) h),
+  λ cause. not-so _ (λ h.
+      let t = both (isTime (s .time)) (loansAccepted (s .loans) && all 32 (acceptedAt s)) h in
+      let rest = both (loansAccepted (s .loans)) (all 32 (acceptedAt s)) (t .1) in
+      not-accepted s cause (t .0) (rest .0) (of-all 32 (acceptedAt s) (rest .1))),
 )
 
 -- ---- a step's outcome
@@ -362,33 +449,48 @@ module _
     by-outcome = by-acceptance (listAccepted list && stateAccepted s) refl
 
 -- the checks refuse with neither 30 nor 40
-cause-below : {s : State} {action : Action} {n : ℕ} → Cause s action n → n < 30
-cause-below malformed = lit< tt
-cause-below (past t h) = lit< tt
-cause-below (open-already i u h) = lit< tt
-cause-below (activate-closed i r h) = lit< tt
-cause-below (deactivate-closed i r h) = lit< tt
-cause-below (access-closed i p o h) = lit< tt
-cause-below (close-closed i h) = lit< tt
-cause-below (move-closed i point h) = lit< tt
-cause-below (lost-closed i h) = lit< tt
-cause-below (assign-already u r h) = lit< tt
-cause-below (grant-already r p h) = lit< tt
-cause-below (activate-already i r h) = lit< tt
-cause-below (withdraw-not u r h) = lit< tt
-cause-below (take-not r p h) = lit< tt
-cause-below (deactivate-not i r h) = lit< tt
-cause-below (activate-unheld i r h) = lit< tt
-cause-below (withdraw-active u r i low user active) = lit< tt
-cause-below (access-uncarried i p o h) = lit< tt
+abbrev Other : ℕ → Type 0
+Other n = (n ≡ 30 → ⊥) × (n ≡ 40 → ⊥)
+
+below-other : {n : ℕ} → n < 30 → Other n
+below-other low = (λ e. omega arith, λ e. omega arith)
+
+above-other : {n : ℕ} → 40 < n → Other n
+above-other high = (λ e. omega arith, λ e. omega arith)
+
+cause-other : {s : State} {action : Action} {n : ℕ} → Cause s action n → Other n
+cause-other malformed = below-other (lit< tt)
+cause-other (past t h) = below-other (lit< tt)
+cause-other (open-already i u h) = below-other (lit< tt)
+cause-other (activate-closed i r h) = below-other (lit< tt)
+cause-other (deactivate-closed i r h) = below-other (lit< tt)
+cause-other (access-closed i p o h) = below-other (lit< tt)
+cause-other (close-closed i h) = below-other (lit< tt)
+cause-other (move-closed i point h) = below-other (lit< tt)
+cause-other (lost-closed i h) = below-other (lit< tt)
+cause-other (assign-already u r h) = below-other (lit< tt)
+cause-other (grant-already r p h) = below-other (lit< tt)
+cause-other (activate-already i r h) = below-other (lit< tt)
+cause-other (withdraw-not u r h) = below-other (lit< tt)
+cause-other (take-not r p h) = below-other (lit< tt)
+cause-other (deactivate-not i r h) = below-other (lit< tt)
+cause-other (activate-unheld i r h) = below-other (lit< tt)
+cause-other (withdraw-active u r i low user active) = below-other (lit< tt)
+cause-other (access-uncarried i p o h) = below-other (lit< tt)
+cause-other (lend-already u v r t h) = below-other (lit< tt)
+cause-other (recall-none u v r h) = below-other (lit< tt)
+cause-other (withdraw-lent-out u r loan member lender role) = below-other (lit< tt)
+cause-other (lend-unassigned u v r t h) = above-other (lit< tt)
+cause-other (lend-full u v r t h) = above-other (lit< tt)
+cause-other (lend-ended u v r t h) = above-other (lit< tt)
 
 first-is-cause : (s : State) (action : Action) (numbers : List ℕ) (n : ℕ) → FirstCause s action numbers n → Cause s action n
 first-is-cause s action [] n t = absurd t
 first-is-cause s action (number ∷ rest) n (inl t) = rw (t .0) (t .1)
 first-is-cause s action (number ∷ rest) n (inr t) = first-is-cause s action rest n (t .1)
 
-pub check-below : (s : State) (action : Action) (n : ℕ) → check s action ≡ refuses n → n < 30
-check-below s action n h = cause-below (first-is-cause s action (checksOf action) n (own-cause s action n .0 h))
+pub check-other : (s : State) (action : Action) (n : ℕ) → check s action ≡ refuses n → (n ≡ 30 → ⊥) × (n ≡ 40 → ⊥)
+check-other s action n h = cause-other (first-is-cause s action (checksOf action) n (own-cause s action n .0 h))
 
 pub same-refusal : (a b : ℕ) → refused a ≡ refused b → a ≡ b
 same-refusal a b h = cc
@@ -410,7 +512,7 @@ refused-forty list s step = (
   λ h. rw h,
   by-outcome list s step (λ next. decisionOf (next .answer) ≡ refused 40 → listAccepted list && stateAccepted s ≡ false)
       (λ h d. h)
-      (λ number h d. let low = check-below s (actionOf step) number h in let same = same-refusal number 40 d in absurd (omega arith))
+      (λ number h d. absurd (check-other s (actionOf step) number h .1 (same-refusal number 40 d)))
       (λ rule pass event h d. let same = same-refusal 30 40 d in absurd (omega arith))
       (λ after taken d. absurd (not-granted 40 d)),
 )
@@ -433,7 +535,7 @@ unfolding stepOf decide checkedNext passedNext requestNext
 refused-thirty list s step rule accepted = (
   by-outcome list s step (λ next. (decisionOf (next .answer) ≡ refused 30) × (namedRule (next .answer) ≡ rule) → (check s (actionOf step) ≡ passes) × (isEvent (actionOf step) ≡ false) × (lowestSelected (rulesOf list) (actionOf step) (target s (actionOf step)) ≡ BrokenAt rule))
       (λ h d. clash accepted h)
-      (λ number h d. let low = check-below s (actionOf step) number h in let same = same-refusal number 30 (d .0) in absurd (omega arith))
+      (λ number h d. absurd (check-other s (actionOf step) number h .0 (same-refusal number 30 (d .0))))
       (λ number pass event h d. (pass, event, h ∙ ap BrokenAt (d .1)))
       (λ after taken d. absurd (not-granted 30 (d .0))),
   λ t. rw (accepted, t .0, t .1, t .2) (refl, refl),

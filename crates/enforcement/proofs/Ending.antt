@@ -22,7 +22,7 @@ use Rattle.rules.specs.declared.families.Rule.the-variants.{Prerequisite, MaxUs
 use Rattle.steps.specs.Pairs.{pairCount, Part}
 use Rattle.selection.specs.Selection.{isNeeds, isDuring, isAt, selects}
 use Rattle.steps.specs.declared.actions.Action.{Action}
-use Rattle.steps.specs.declared.actions.Action.the-variants.{Malformed, Assign, Withdraw, Grant, Take, Open, Activate, Deactivate, Access, Finish, Close, Move, Lost, Clock}
+use Rattle.steps.specs.declared.actions.Action.the-variants.{Malformed, Assign, Withdraw, Grant, Take, Open, Activate, Deactivate, Access, Finish, Close, Move, Lost, Clock, Lend, Recall}
 use Rattle.enforcement.specs.States.{positionOf, ruleHolds}
 use Rattle.steps.specs.Steps.{isEvent}
 use Rattle.enforcement.specs.Steps.{withActive}
@@ -66,6 +66,8 @@ event-ends (Close i) rule event e = right-or (isAt rule) (isDuring rule || isNee
 event-ends (Move i point) rule event e = wider (isAt rule) (isDuring rule) (isNeeds rule) e
 event-ends (Lost i) rule event e = wider (isAt rule) (isDuring rule) (isNeeds rule) e
 event-ends (Clock t) rule event e = right-or (isAt rule) (isDuring rule || isNeeds rule) e
+event-ends (Lend u v r t) rule event e = absurd (false≢true event)
+event-ends (Recall u v r) rule event e = right-or (isAt rule) (isDuring rule || isNeeds rule) (right-or (isDuring rule) (isNeeds rule) e)
 
 module _ (s : State) (m l : List ℕ) where
   -- a rule that holds under the pairs of a list lets each of them stay where these and more are active

@@ -13,7 +13,7 @@ use lib.Pow.{pow-pos}
 use lib.Seq.{getD-set-same, getD-set-other, set-getD}
 use borrow.Author.Tests.{eqb-true, eq-eqb, lt-ltb, le-leb, not-false}
 use Rattle.sets.specs.Sets.{member, with, without, all, count}
-use Rattle.sets.proofs.Booleans.{clash, both-true, left-true, right-true, both, left-or, of-or, of-not-both, not-so}
+use Rattle.sets.proofs.Booleans.{clash, both-true, left-true, right-true, both, left-or, right-or, of-or, neither, of-not-both, not-so}
 use Rattle.sets.proofs.Bounded.{all-of, of-all, any-of}
 use Rattle.sets.proofs.Counting.{count-none}
 use Rattle.sets.proofs.Members.{member-empty, member-with, member-without}
@@ -27,23 +27,22 @@ use Rattle.rules.specs.declared.families.Rule.the-variants.{Prerequisite, MaxUs
 use Rattle.rules.specs.declared.sessions.Session.{Session}
 use Rattle.steps.specs.Pairs.{Part}
 use Rattle.steps.specs.declared.actions.Action.{Action}
-use Rattle.steps.specs.declared.actions.Action.the-variants.{Malformed, Assign, Withdraw, Grant, Take, Open, Activate, Deactivate, Access, Finish, Close, Move, Lost, Clock}
+use Rattle.steps.specs.declared.actions.Action.the-variants.{Malformed, Assign, Withdraw, Grant, Take, Open, Activate, Deactivate, Access, Finish, Close, Move, Lost, Clock, Lend, Recall}
 use Rattle.steps.specs.Steps.{isTime}
-use Rattle.enforcement.specs.States.{fresh, assignedRole, holdsRole, carries, isOpen, userOf, positionOf, activeRole, did, ruleHolds, sessionAccepted, stateAccepted}
-use Rattle.enforcement.specs.Steps.{Checked, passes, refuseIf, check, target, withAssigned, withGranted, withSessions, withActive, withHistory, withTime, placed, put, takeOut, emptied, session}
+use Rattle.loans.specs.Loans.{isNamed, runsAt, loanOf, noLoan, loansAccepted, acceptedFrom, inserted, heldWith}
+use Rattle.loans.proofs.Holding.{held-means}
+use Rattle.enforcement.specs.States.{fresh, assignedRole, lentOutRole, loansOf, borrowedRole, holdsRole, carries, isOpen, userOf, positionOf, activeRole, did, ruleHolds, sessionAccepted, stateAccepted}
+use Rattle.enforcement.specs.Steps.{Checked, passes, refuseIf, check, target, loansLeft, unheldClosed, withAssigned, withGranted, withSessions, withActive, withHistory, withTime, placed, put, takeOut, emptied, session}
 use Rattle.enforcement.specs.Reached.{Typed, Accepted, Held}
 use Rattle.enforcement.specs.declared.states.State.{State}
 use Rattle.enforcement.proofs.Words.{has-put, has-take-out}
 use Rattle.enforcement.proofs.Ranges.{Ranged}
 use Rattle.enforcement.specs.Claims.{Holds}
 use Rattle.enforcement.proofs.Holding.{rule-means}
-use Rattle.enforcement.proofs.Frame.{not-refused, closed-inactive}
+use Rattle.enforcement.proofs.Checks.{not-refused, later-passes}
+use Rattle.enforcement.proofs.Loans.{unrefused, sessions-unrefused, loans-ordered, holds-means, has-held, unheld-part, accepted-time, accepted-loans, accepted-left, lend-passes, lent-ordered, lent-few, lent-held}
+use Rattle.enforcement.proofs.Frame.{closed-inactive}
 use Rattle.selection.proofs.Parts.{has-below}
-
--- the checks after one that passes pass
-pub later-passes : (cause : Bool) (number : ℕ) (later : Checked) → refuseIf cause number later ≡ passes → later ≡ passes
-later-passes true number later pass = absurd (let e : _≡_ {A = ℕ} 0 1 = cc in omega arith)
-later-passes false number later pass = pass
 
 is-open : (s : State) (i : ℕ) (later : Checked) → refuseIf (not (isOpen s i)) 23 later ≡ passes → isOpen s i ≡ true
 is-open s i later pass = not-false (isOpen s i) (not-refused (not (isOpen s i)) 23 later pass)
@@ -74,11 +73,12 @@ unfolding emptied
 words-emptied zero start words within = words
 words-emptied {width = width} (suc k) start words within = words-set (start + k) 0 (words-emptied k start words (omega arith)) (omega arith) (pow-pos width)
 
-typed-of : (s : State) → Words 64 32 (s .assigned) → Words 32 32 (s .granted) → length (s .sessions) ≡ 32 → Words 32 32 (s .active) → Words 1024 64 (s .history) → Typed s
-typed-of s assigned granted sessions active history =
+typed-of : (s : State) → Words 64 32 (s .assigned) → Words 32 32 (s .granted) → length (s .loans .entries) ≡ 32 → length (s .sessions) ≡ 32 → Words 32 32 (s .active) → Words 1024 64 (s .history) → Typed s
+typed-of s assigned granted loans sessions active history =
     record {
       users = assigned .long;
       roles = granted .long;
+      allLoans = loans;
       allSessions = sessions;
       actives = active .long;
       records = history .long;
@@ -122,18 +122,14 @@ module _ (s : State) (accepted : Accepted s) where
   history-words : Words 1024 64 (s .history)
   history-words = record { long = accepted .typed .records; small = accepted .typed .smallHistory }
 
-  unrefused : (isTime (s .time) ≡ true) × (all 32 (acceptedAt (s .sessions) (s .active)) ≡ true)
-  unfolding stateAccepted
-  unrefused = both (isTime (s .time)) (all 32 (acceptedAt (s .sessions) (s .active))) (accepted .unrefused)
-
   session-accepted : (i : ℕ) → i < 32 → acceptedAt (s .sessions) (s .active) i ≡ true
-  session-accepted = of-all 32 (acceptedAt (s .sessions) (s .active)) (unrefused .1)
+  session-accepted = of-all 32 (acceptedAt (s .sessions) (s .active)) (sessions-unrefused s accepted)
 
   -- in what is not looked at
   accepted-words : {assigned granted history : List ℕ} → Words 64 32 assigned → Words 32 32 granted → Words 1024 64 history → Accepted (withHistory (withGranted (withAssigned s assigned) granted) history)
   unfolding stateAccepted
   accepted-words assigned granted history = record {
-    typed = typed-of _ assigned granted (accepted .typed .allSessions) active-words history;
+    typed = typed-of _ assigned granted (accepted .typed .allLoans) (accepted .typed .allSessions) active-words history;
     unrefused = accepted .unrefused;
   }
 
@@ -141,8 +137,8 @@ module _ (s : State) (accepted : Accepted s) where
   accepted-sessions : (sessions : List Session) (active : List ℕ) → length sessions ≡ 32 → Words 32 32 active → ((i : ℕ) → i < 32 → acceptedAt sessions active i ≡ true) → Accepted (withActive (withSessions s sessions) active)
   unfolding stateAccepted
   accepted-sessions sessions active long words each = record {
-    typed = typed-of _ assigned-words granted-words long words history-words;
-    unrefused = both-true (isTime (s .time)) (all 32 (acceptedAt sessions active)) (unrefused .0) (all-of 32 (acceptedAt sessions active) each);
+    typed = typed-of _ assigned-words granted-words (accepted .typed .allLoans) long words history-words;
+    unrefused = both-true (isTime (s .time)) _ (unrefused s accepted .0) (both-true (loansAccepted (s .loans)) (all 32 (acceptedAt sessions active)) (unrefused s accepted .1) (all-of 32 (acceptedAt sessions active) each));
   }
 
   -- in one session
@@ -184,6 +180,30 @@ module _ (s : State) (accepted : Accepted s) where
   held-placed i position below held =
       rw set-getD at (held-session i (session (isOpen s i) (userOf s i) position) (wordAt (s .active) i) below held (held i))
 
+-- ---- a part of a state's pairs
+
+-- a state with a part of its pairs is not refused
+pub accepted-part : (s : State) (l : List ℕ) → Accepted s → Part l (s .active) → Accepted (withActive s l)
+accepted-part s l accepted part =
+    accepted-sessions s accepted (s .sessions) l (accepted .typed .allSessions) (record { long = part .sameLength ∙ accepted .typed .actives; small = small })
+    (λ i below. each i below (isOpen s i) refl)
+  where
+    small : (i : ℕ) → wordAt l i < 2 ^ 32
+    small i = within-lt 32 (wordAt l i) (wordAt (s .active) i) (accepted .typed .smallActive i) (part .within i)
+
+    none : (i r : ℕ) → i < 32 → isOpen s i ≡ false → hasRole l i r ≡ false
+    none i r below closed = not-so (hasRole l i r) (λ e. clash (part .within i r e) (closed-inactive s accepted i r below closed))
+
+    each : (i : ℕ) → i < 32 → (b : Bool) → isOpen s i ≡ b → acceptedAt (s .sessions) l i ≡ true
+    each i below true opened = open-any-roles (sessionAt (s .sessions) i) (wordAt (s .active) i) (session-accepted s accepted i below) opened (wordAt l i)
+    each i below false closed =
+        rw (same-members 32 (wordAt l i) (wordAt (s .active) i) (small i) (accepted .typed .smallActive i) (λ r m. none i r below closed ∙ sym (closed-inactive s accepted i r below closed)))
+        (session-accepted s accepted i below)
+
+pub accepted-closed : (s : State) → Accepted s → Accepted (unheldClosed s)
+unfolding unheldClosed
+accepted-closed s accepted = accepted-part s _ accepted (unheld-part s)
+
 -- ---- the target of a step
 
 -- the target of a step that passes its checks is not refused
@@ -212,44 +232,48 @@ accepted-target (Finish o) s accepted ranged pass =
 accepted-target (Close i) s accepted ranged pass = accepted-session s accepted i closedSession 0 ranged (pow-pos 32) refl
 accepted-target (Move i point) s accepted ranged pass = accepted-placed s accepted i (Known point) (ranged .0) (ranged .1) (is-open s i _ pass)
 accepted-target (Lost i) s accepted ranged pass = accepted-placed s accepted i Unknown ranged refl (is-open s i _ pass)
-accepted-target (Clock t) s accepted ranged pass = record {
-  typed = typed-of (withTime s t) (assigned-words s accepted) (granted-words s accepted) (accepted .typed .allSessions) (active-words s accepted) (history-words s accepted);
-  unrefused = both-true (isTime t) _ (le-leb t 3155759999 ranged) (unrefused s accepted .1);
-}
+accepted-target (Clock t) s accepted ranged pass = accepted-closed _ (accepted-left (runsAt t) (withTime s t) (accepted-time s accepted t ranged))
+accepted-target (Lend u v r t) s accepted ranged pass =
+    let free = lend-passes s u v r t pass in
+    accepted-loans s accepted (inserted (loanOf u v r t) (loansOf s)) (lent-ordered s accepted u v r t free ranged) (lent-few s accepted u v r t free ranged)
+accepted-target (Recall u v r) s accepted ranged pass = accepted-closed _ (accepted-left (λ loan. not (isNamed u v r loan)) s accepted)
 
--- nor is a state with a part of its pairs
-pub accepted-part : (s : State) (l : List ℕ) → Accepted s → Part l (s .active) → Accepted (withActive s l)
-accepted-part s l accepted part =
-    accepted-sessions s accepted (s .sessions) l (accepted .typed .allSessions) (record { long = part .sameLength ∙ accepted .typed .actives; small = small })
-    (λ i below. each i below (isOpen s i) refl)
-  where
-    small : (i : ℕ) → wordAt l i < 2 ^ 32
-    small i = within-lt 32 (wordAt l i) (wordAt (s .active) i) (accepted .typed .smallActive i) (part .within i)
+-- ---- what is held
 
-    none : (i r : ℕ) → i < 32 → isOpen s i ≡ false → hasRole l i r ≡ false
-    none i r below closed = not-so (hasRole l i r) (λ e. clash (part .within i r e) (closed-inactive s accepted i r below closed))
+-- a user who holds a role and, where it was assigned, is still assigned it holds it
+held-as : (s : State) → Accepted s → (roles : List ℕ) → length roles ≡ length (s .assigned) → (u r : ℕ) → (assignedRole s u r ≡ true → hasRole roles u r ≡ true) → holdsRole s u r ≡ true → hasRole (heldWith roles (loansOf s)) u r ≡ true
+held-as s accepted roles long u r still h =
+    held-means roles 0 (loansOf s) u r (long ∙ accepted .typed .users) (loans-ordered s accepted)
+    ∙ ⊎-elim (λ a. left-or (hasRole roles u r) (borrowedRole s u r) (still a)) (right-or (hasRole roles u r) (borrowedRole s u r))
+    (of-or (assignedRole s u r) (borrowedRole s u r) (sym (holds-means s accepted u r) ∙ h))
 
-    each : (i : ℕ) → i < 32 → (b : Bool) → isOpen s i ≡ b → acceptedAt (s .sessions) l i ≡ true
-    each i below true opened = open-any-roles (sessionAt (s .sessions) i) (wordAt (s .active) i) (session-accepted s accepted i below) opened (wordAt l i)
-    each i below false closed =
-        rw (same-members 32 (wordAt l i) (wordAt (s .active) i) (small i) (accepted .typed .smallActive i) (λ r m. none i r below closed ∙ sym (closed-inactive s accepted i r below closed)))
-        (session-accepted s accepted i below)
+held-grows : (s : State) → Accepted s → (roles : List ℕ) → length roles ≡ length (s .assigned) → ((u r : ℕ) → assignedRole s u r ≡ true → hasRole roles u r ≡ true) → (u r : ℕ) → holdsRole s u r ≡ true → hasRole (heldWith roles (loansOf s)) u r ≡ true
+held-grows s accepted roles long more u r = held-as s accepted roles long u r (more u r)
+
+-- once the roles that are not held are closed each active role is held
+closed-held : (s : State) → Held (unheldClosed s)
+unfolding unheldClosed
+closed-held s i r h =
+    right-true (activeRole s i r) (holdsRole s (userOf s i) r) (right-true (ltb r 32) (activeRole s i r && holdsRole s (userOf s i) r) (sym (has-held s i r) ∙ h))
 
 -- in the target each active role is held by its session's user, where it was before
 pub held-target : (action : Action) (s : State) → Accepted s → Ranged action → check s action ≡ passes → Held s → Held (target s action)
 unfolding check target isActiveFor
 held-target Malformed s accepted ranged pass held = held
 held-target (Assign u r) s accepted ranged pass held = λ i q e.
-    rw (has-put (s .assigned) u (rw (accepted .typed .users) (ranged .0)) 32 r (userOf s i) q)
-    (left-or (holdsRole s (userOf s i) q) (eqb u (userOf s i) && (ltb r 32 && eqb r q)) (held i q e))
+    held-grows s accepted (put 32 (s .assigned) u r) (length-set (s .assigned) u _)
+    (λ w k a. rw (has-put (s .assigned) u (rw (accepted .typed .users) (ranged .0)) 32 r w k) (left-or (assignedRole s w k) (eqb u w && (ltb r 32 && eqb r k)) a)) (userOf s i) q (held i q e)
 held-target (Withdraw u r) s accepted ranged pass held = λ i q e.
-    rw (has-take-out (s .assigned) u (rw (accepted .typed .users) (ranged .0)) r (userOf s i) q)
-    (both-true (holdsRole s (userOf s i) q) (not (eqb u (userOf s i) && eqb r q)) (held i q e)
-    (of-not-both (eqb u (userOf s i)) (eqb r q) (λ sameUser sameRole.
+    let roles = takeOut (s .assigned) u r in
+    let within : u < length (s .assigned) = rw (accepted .typed .users) (ranged .0) in
+    let unused = neither (isActiveFor (s .sessions) (s .active) u r) (lentOutRole s u r) (not-refused _ 27 passes (later-passes (not (assignedRole s u r)) 25 _ pass)) in
+    let other : not (eqb u (userOf s i) && eqb r q) ≡ true =
+    of-not-both (eqb u (userOf s i)) (eqb r q) (λ sameUser sameRole.
     clash
     (any-of 32 i (λ j. eqb (userOf s j) u && activeRole s j r) (rw (accepted .typed .actives) at (has-below (s .active) i q e))
-    (both-true (eqb (userOf s i) u) (activeRole s i r) (eq-eqb (userOf s i) u (sym (eqb-true u (userOf s i) sameUser))) (rw (eqb-true r q sameRole) e)))
-    (not-refused (isActiveFor (s .sessions) (s .active) u r) 27 passes (later-passes (not (assignedRole s u r)) 25 _ pass)))))
+    (both-true (eqb (userOf s i) u) (activeRole s i r) (eq-eqb (userOf s i) u (sym (eqb-true u (userOf s i) sameUser))) (rw (eqb-true r q sameRole) e))) (unused .0)) in
+    held-as s accepted roles (length-set (s .assigned) u _) (userOf s i) q
+    (λ a. rw (has-take-out (s .assigned) u within r (userOf s i) q) (both-true (assignedRole s (userOf s i) q) (not (eqb u (userOf s i) && eqb r q)) a other)) (held i q e)
 held-target (Grant r p) s accepted ranged pass held = held
 held-target (Take r p) s accepted ranged pass held = held
 held-target (Open i u) s accepted ranged pass held =
@@ -269,7 +293,9 @@ held-target (Finish o) s accepted ranged pass held = held
 held-target (Close i) s accepted ranged pass held = held-session s accepted i closedSession 0 ranged held (λ r e. clash e (member-empty r))
 held-target (Move i point) s accepted ranged pass held = held-placed s accepted i (Known point) (ranged .0) held
 held-target (Lost i) s accepted ranged pass held = held-placed s accepted i Unknown ranged held
-held-target (Clock t) s accepted ranged pass held = held
+held-target (Clock t) s accepted ranged pass held = closed-held (loansLeft (runsAt t) (withTime s t))
+held-target (Lend u v r t) s accepted ranged pass held = λ i q e. lent-held s accepted u v r t (lend-passes s u v r t pass) ranged (userOf s i) q (held i q e)
+held-target (Recall u v r) s accepted ranged pass held = closed-held (loansLeft (λ loan. not (isNamed u v r loan)) s)
 
 pub held-part : (s : State) (l : List ℕ) → Held s → Part l (s .active) → Held (withActive s l)
 held-part s l held part = λ i r e. held i r (part .within i r e)
@@ -294,9 +320,9 @@ no-member-read false n i r = member-empty r
 
 -- the fresh state is not refused, obeys every rule, and has no active role
 pub fresh-accepted : Accepted fresh
-unfolding fresh stateAccepted sessionAccepted
+unfolding fresh stateAccepted loansAccepted acceptedFrom sessionAccepted
 fresh-accepted = record {
-  typed = typed-of fresh (empty-words 64 32) (empty-words 32 32) (length-replicate 32 closedSession) (empty-words 32 32) (empty-words 1024 64);
+  typed = typed-of fresh (empty-words 64 32) (empty-words 32 32) (length-replicate 32 noLoan) (length-replicate 32 closedSession) (empty-words 32 32) (empty-words 1024 64);
   unrefused = all-of 32 _ (λ i l. rw (same-everywhere 32 i closedSession, same-everywhere {A = ℕ} 32 i 0));
 }
 
@@ -308,7 +334,7 @@ count-empty : (k n : ℕ) (p : ℕ → Bool) → ((i : ℕ) → p i ≡ false) �
 count-empty k n p e = rw (count-none k p (λ i l. e i)) zero-le
 
 fresh-holds : (rule : Rule) → Holds rule fresh
-unfolding fresh permissionsOf usersWho
+unfolding fresh heldWith permissionsOf usersWho
 fresh-holds (Prerequisite r q) = λ u l e. clash e (no-member 64 u r)
 fresh-holds (MaxUsers r n) = count-empty 64 n (λ u. holdsRole fresh u r) (λ u. no-member 64 u r)
 fresh-holds (MaxRoles n) = λ u l. count-empty 32 n (holdsRole fresh u) (no-member 64 u)

@@ -27,24 +27,24 @@ use Rattle.enforcement.proofs.Agreement.{step-plain, along-fresh}
 use Rattle.enforcement.proofs.Reaching.{reached-good}
 
 -- what the plain gate grants an event
-plain-leaves : (rules : List Rule) (s : State) (action : Action) (v : Verdict) → (check s action ≡ passes → Typed (target s action)) → Plain rules s action v → isEvent action ≡ true → v .decision ≡ granted → LargestLeft rules s action (v .state)
-plain-leaves rules s action v typed (refusing number e) event grants = absurd (not-granted number (sym grants))
-plain-leaves rules s action v typed (breaking rule e request low) event grants = absurd (true≢false (sym event ∙ request))
-plain-leaves rules s action v typed (taking e request low) event grants = absurd (true≢false (sym event ∙ request))
-plain-leaves rules s action v typed (ending l e ev kept) event grants =
+plain-leaves : (rules : List Rule) (s : State) (action : Action) (v : Verdict) → Typed s → (check s action ≡ passes → Typed (target s action)) → Plain rules s action v → isEvent action ≡ true → v .decision ≡ granted → LargestLeft rules s action (v .state)
+plain-leaves rules s action v before typed (refusing number e) event grants = absurd (not-granted number (sym grants))
+plain-leaves rules s action v before typed (breaking rule e request low) event grants = absurd (true≢false (sym event ∙ request))
+plain-leaves rules s action v before typed (taking e request low) event grants = absurd (true≢false (sym event ∙ request))
+plain-leaves rules s action v before typed (ending l e ev kept) event grants =
     record {
-      part = λ i r h. event-pairs s action ev i r .0 (kept .isPart .within i r h);
+      part = λ i r h. event-pairs s action before ev i r .0 (kept .isPart .within i r h);
       holding = obeys-means rules (withActive (target s action) l) .0 (kept .holding);
       largest = λ m long within holding i r h.
           kept .largest m
-          (record { sameLength = long ∙ sym (typed e .actives); within = λ j q x. event-pairs s action ev j q .1 (within j q x) })
+          (record { sameLength = long ∙ sym (typed e .actives); within = λ j q x. event-pairs s action before ev j q .1 (within j q x) })
           (obeys-means rules (withActive (target s action) m) .1 holding) .within i r h;
     }
 
 module _ (list : RuleList) (listed : listAccepted list ≡ true) where
   event-leaves : (s : State) → Accepted s → obeys (rulesOf list) s ≡ true → (step : Step) → LeavesLargest (rulesOf list) s step (stepOf list s step)
   event-leaves s accepted obeyed step =
-      plain-leaves (rulesOf list) s (actionOf step) (compared s (stepOf list s step))
+      plain-leaves (rulesOf list) s (actionOf step) (compared s (stepOf list s step)) (accepted .typed)
       (λ pass. accepted-target (actionOf step) s accepted (action-ranged step) pass .typed) (step-plain list listed s accepted obeyed step)
 
   -- over every list of steps from a fresh state

@@ -1,6 +1,10 @@
 pub mod Words
 pub mod Ranges
 pub mod Holding
+pub mod Checks
+pub mod Loans
+pub mod EndedPairs
+pub mod Lending
 pub mod Frame
 pub mod Ending
 pub mod Parts
@@ -8,6 +12,7 @@ pub mod Kept
 pub mod Agreement
 pub mod Reaching
 pub mod Callers
+pub mod StandIns
 pub mod Causes
 pub mod Carried
 pub mod Targets

@@ -8,8 +8,8 @@ use borrow.Author.Tests.{ltb-true, leb-true}
 use Rattle.sets.proofs.Booleans.{both}
 use Rattle.places.specs.Places.{onGrid, pointInRange}
 use Rattle.steps.specs.declared.actions.Action.{Action}
-use Rattle.steps.specs.declared.actions.Action.the-variants.{Malformed, Assign, Withdraw, Grant, Take, Open, Activate, Deactivate, Access, Finish, Close, Move, Lost, Clock}
-use Rattle.steps.specs.Steps.{ranged, actionOf}
+use Rattle.steps.specs.declared.actions.Action.the-variants.{Malformed, Assign, Withdraw, Grant, Take, Open, Activate, Deactivate, Access, Finish, Close, Move, Lost, Clock, Lend, Recall}
+use Rattle.steps.specs.Steps.{isTime, ranged, actionOf}
 use Rattle.steps.specs.declared.steps.Step.{Step}
 
 -- each number is in the range that document 01 gives it
@@ -28,6 +28,8 @@ Ranged (Close i) = i < 32
 Ranged (Move i point) = (i < 32) × (pointInRange point ≡ true)
 Ranged (Lost i) = i < 32
 Ranged (Clock t) = t ≤ 3155759999
+Ranged (Lend u v r t) = (u < 64) × (v < 64) × (r < 32) × (t ≤ 3155759999)
+Ranged (Recall u v r) = (u < 64) × (v < 64) × (r < 32)
 
 module _ (step : Step) where
   -- a step of one kind is in range where the kind's test says so, one of another where what is read of it is
@@ -45,11 +47,18 @@ module _ (step : Step) where
   first-two : (k l : ℕ) → (ltb (step .first) k && ltb (step .second) l) ≡ true → (step .first < k) × (step .second < l)
   first-two k l h = let t = first-and k (ltb (step .second) l) h in (t .0, ltb-true (step .second) l (t .1))
 
-  all-three : (ltb (step .first) 32 && (ltb (step .second) 32 && ltb (step .third) 32)) ≡ true → (step .first < 32) × (step .second < 32) × (step .third < 32)
-  all-three h =
-      let t = first-and 32 (ltb (step .second) 32 && ltb (step .third) 32) h in
-      let others = both (ltb (step .second) 32) (ltb (step .third) 32) (t .1) in
-      (t .0, ltb-true (step .second) 32 (others .0), ltb-true (step .third) 32 (others .1))
+  all-three : (k l m : ℕ) → (ltb (step .first) k && (ltb (step .second) l && ltb (step .third) m)) ≡ true → (step .first < k) × (step .second < l) × (step .third < m)
+  all-three k l m h =
+      let t = first-and k (ltb (step .second) l && ltb (step .third) m) h in
+      let others = both (ltb (step .second) l) (ltb (step .third) m) (t .1) in
+      (t .0, ltb-true (step .second) l (others .0), ltb-true (step .third) m (others .1))
+
+  all-four : (ltb (step .first) 64 && (ltb (step .second) 64 && (ltb (step .third) 32 && isTime (step .fourth)))) ≡ true → (step .first < 64) × (step .second < 64) × (step .third < 32) × (step .fourth ≤ 3155759999)
+  all-four h =
+      let t = first-and 64 (ltb (step .second) 64 && (ltb (step .third) 32 && isTime (step .fourth))) h in
+      let others = both (ltb (step .second) 64) (ltb (step .third) 32 && isTime (step .fourth)) (t .1) in
+      let last = both (ltb (step .third) 32) (isTime (step .fourth)) (others .1) in
+      (t .0, ltb-true (step .second) 64 (others .0), ltb-true (step .third) 32 (last .0), leb-true (step .fourth) 3155759999 (last .1))
 
 pub action-ranged : (step : Step) → Ranged (actionOf step)
 unfolding actionOf pointInRange
@@ -61,9 +70,11 @@ action-ranged step =
     (of-kind step 4 _ _ _ (first-two step 32 64)
     (of-kind step 5 _ _ _ (first-two step 32 32)
     (of-kind step 6 _ _ _ (first-two step 32 32)
-    (of-kind step 7 _ _ _ (all-three step)
+    (of-kind step 7 _ _ _ (all-three step 32 32 32)
     (of-kind step 8 _ _ _ (ltb-true (step .first) 32)
     (of-kind step 9 _ _ _ (ltb-true (step .first) 32)
     (of-kind step 10 _ _ _ (first-and step 32 (onGrid (step .x) && onGrid (step .y)))
     (of-kind step 11 _ _ _ (ltb-true (step .first) 32)
-    (of-kind step 12 _ _ _ (leb-true (step .first) 3155759999) tt))))))))))))
+    (of-kind step 12 _ _ _ (leb-true (step .first) 3155759999)
+    (of-kind step 13 _ _ _ (all-four step)
+    (of-kind step 14 _ _ _ (all-three step 64 64 32) tt))))))))))))))

@@ -12,29 +12,32 @@ use Rattle.enforcement.specs.Steps.{target}
 use Rattle.enforcement.specs.Gate.{refusedNext, decide, stepOf}
 use Rattle.enforcement.specs.Narrow.{Narrow, refusing, breaking, taking, ending}
 pub use Rattle.enforcement.specs.Reached.{Good}
-use Rattle.enforcement.specs.Reached.{Accepted, Held, Reached, start, read, stepped}
+use Rattle.enforcement.specs.Reached.{Accepted, Held, Lending, Reached, start, read, stepped}
 use Rattle.enforcement.specs.declared.states.State.{State}
 use Rattle.steps.specs.declared.steps.Step.{Step}
 use Rattle.steps.specs.declared.answers.Answer.the-variants.{Refused}
 use Rattle.enforcement.specs.declared.states.Next.{Next}
 use Rattle.enforcement.proofs.Ranges.{Ranged, action-ranged}
 use Rattle.enforcement.proofs.Kept.{accepted-target, accepted-part, held-target, held-part, fresh-accepted, fresh-held}
+use Rattle.enforcement.proofs.Lending.{lending-target, lending-part, fresh-lending}
 use Rattle.enforcement.proofs.Agreement.{step-narrow, step-keeps, all-hold-fresh}
 
--- 40 does not refuse it, and each active role is held by its session's user where it was before
+-- 40 does not refuse it; each active role is held by its session's user, and the loans run as they were lent, where it was so before
 record Kept (before after : State) : Type 0 where
   stillAccepted : Accepted after
   stillHeld : Held before → Held after
+  stillLending : Lending before → Lending after
 
 narrow-keeps : (rules : List Rule) (s : State) (action : Action) (given : Next) → Accepted s → Ranged action → Narrow rules s action given → Kept s (given .state)
-narrow-keeps rules s action given accepted ranged (refusing number e) = record { stillAccepted = accepted; stillHeld = λ held. held }
-narrow-keeps rules s action given accepted ranged (breaking rule e event low) = record { stillAccepted = accepted; stillHeld = λ held. held }
+narrow-keeps rules s action given accepted ranged (refusing number e) = record { stillAccepted = accepted; stillHeld = λ held. held; stillLending = λ lending. lending }
+narrow-keeps rules s action given accepted ranged (breaking rule e event low) = record { stillAccepted = accepted; stillHeld = λ held. held; stillLending = λ lending. lending }
 narrow-keeps rules s action given accepted ranged (taking e event low) =
-    record { stillAccepted = accepted-target action s accepted ranged e; stillHeld = held-target action s accepted ranged e }
+    record { stillAccepted = accepted-target action s accepted ranged e; stillHeld = held-target action s accepted ranged e; stillLending = lending-target action s accepted ranged e }
 narrow-keeps rules s action given accepted ranged (ending l e event largest) =
     record {
       stillAccepted = accepted-part (target s action) l (accepted-target action s accepted ranged e) (largest .isPart);
       stillHeld = λ held. held-part (target s action) l (held-target action s accepted ranged e held) (largest .isPart);
+      stillLending = λ lending. lending-part (target s action) l (lending-target action s accepted ranged e lending);
     }
 
 step-kept : (list : RuleList) (s : State) (step : Step) → Accepted s → Kept s (stepOf list s step .state)
@@ -43,7 +46,7 @@ step-kept list s step accepted = rw (accepted .unrefused) (by-list (listAccepted
   where
     by-list : (listed : Bool) → Kept s (cond (listed && true) (decide (rulesOf list) s (actionOf step)) (refusedNext s (Refused 40)) .state)
     by-list true = narrow-keeps (rulesOf list) s (actionOf step) (decide (rulesOf list) s (actionOf step)) accepted (action-ranged step) (step-narrow (rulesOf list) s accepted (actionOf step) (action-ranged step))
-    by-list false = record { stillAccepted = accepted; stillHeld = λ held. held }
+    by-list false = record { stillAccepted = accepted; stillHeld = λ held. held; stillLending = λ lending. lending }
 
 -- a step hands back a state that 40 does not refuse, whatever the rules
 pub step-accepted : (list : RuleList) (s : State) (step : Step) → Accepted s → Accepted (stepOf list s step .state)
@@ -53,14 +56,23 @@ step-accepted list s step accepted = step-kept list s step accepted .stillAccept
 pub step-held : (list : RuleList) (s : State) (step : Step) → Accepted s → Held s → Held (stepOf list s step .state)
 step-held list s step accepted = step-kept list s step accepted .stillHeld
 
--- every reached state is one that 40 does not refuse, has its active roles held, and obeys the rules, where what was read is so
-pub reached-good : (list : RuleList) → listAccepted list ≡ true → (Read : State → Type 0) → ((s : State) → Read s → Good list s) → {s : State} → Reached list Read s → Good list s
-reached-good list listed Read readGood start = record { accepted = fresh-accepted; held = fresh-held; obeyed = all-hold-fresh (rulesOf list) }
-reached-good list listed Read readGood (read {s = s} h) = readGood s h
-reached-good list listed Read readGood (stepped {s = s} step h) =
-    let good = reached-good list listed Read readGood h in
+-- and whose loans run as they were lent, where they did before
+pub step-lending : (list : RuleList) (s : State) (step : Step) → Accepted s → Lending s → Lending (stepOf list s step .state)
+step-lending list s step accepted = step-kept list s step accepted .stillLending
+
+-- so what is claimed of every reached state stays so
+pub step-good : (list : RuleList) → listAccepted list ≡ true → (s : State) → Good list s → (step : Step) → Good list (stepOf list s step .state)
+step-good list listed s good step =
     record {
       accepted = step-accepted list s step (good .accepted);
       held = step-held list s step (good .accepted) (good .held);
+      lending = step-lending list s step (good .accepted) (good .lending);
       obeyed = step-keeps list listed s (good .accepted) (good .obeyed) step .1;
     }
+
+-- every reached state is one that 40 does not refuse, has its active roles held and its loans as they were lent, and obeys the rules, where
+-- what was read is so
+pub reached-good : (list : RuleList) → listAccepted list ≡ true → (Read : State → Type 0) → ((s : State) → Read s → Good list s) → {s : State} → Reached list Read s → Good list s
+reached-good list listed Read readGood start = record { accepted = fresh-accepted; held = fresh-held; lending = fresh-lending; obeyed = all-hold-fresh (rulesOf list) }
+reached-good list listed Read readGood (read {s = s} h) = readGood s h
+reached-good list listed Read readGood (stepped {s = s} step h) = step-good list listed s (reached-good list listed Read readGood h) step

@@ -2,17 +2,21 @@
 -- Assumes nothing.
 use mathlib.Core.Path.{_≡_, refl, sym, ap, ap₂, _∙_}
 use mathlib.Core.Bool.{Bool, true, false, not, cond, _&&_, _||_}
+use mathlib.Core.Logic.{_⊎_, inl, inr}
 use mathlib.Core.List.{List, [], _∷_}
 use Prim.Native.Nat.{ℕ, zero, suc, _+_, _*_, _<_, _≤_}
 use native.Mathlib.Nat.{zero-add, add-zero}
 use native.Mathlib.Numerals.{add-one}
 use native.Mathlib.Omega.{arith}
+use lib.Dec.{ltb}
 use lib.ListN.{length, set, List·getD-eq-default}
-use borrow.Author.Tests.{lt-ltb}
+use lib.Seq.{set-out}
+use borrow.Author.Tests.{lt-ltb, ltb-true, ltb-false}
 use Rattle.sets.specs.Sets.{member, difference, any, count}
+use Rattle.sets.proofs.Booleans.{left-or}
 use Rattle.sets.proofs.Bounded.{any-same}
 use Rattle.sets.proofs.Members.{member-empty}
-use Rattle.rules.specs.Families.{wordAt, hasRole, permissionsOf}
+use Rattle.rules.specs.Families.{view, wordAt, hasRole, permissionsOf}
 use Rattle.rules.specs.declared.families.Rule.{Rule}
 use Rattle.steps.specs.declared.lowest.Lowest.{Lowest}
 use Rattle.steps.specs.declared.lowest.Lowest.the-variants.{Unbroken, BrokenAt}
@@ -21,16 +25,20 @@ use Rattle.steps.specs.Pairs.{endedPairs, pairCount}
 use Rattle.selection.specs.Selection.{selects, selectedNumber}
 use Rattle.steps.specs.declared.actions.Action.{Action}
 use Rattle.steps.specs.declared.actions.Action.the-variants.{Finish}
-use Rattle.selection.specs.Judging.{judgedOf}
+use Rattle.selection.specs.Judging.{judgedOf, readsHeld}
 use Rattle.selection.specs.declared.judging.Judged.{Judged}
-use Rattle.enforcement.specs.States.{carries, activeRole, viewOf}
+use Rattle.selection.proofs.HeldUnread.{held-unread}
+use Rattle.loans.specs.Loans.{heldWith}
+use Rattle.loans.specs.declared.Loan.{Loan}
+use Rattle.enforcement.specs.States.{heldRoles}
 use Rattle.steps.specs.Steps.{isEvent}
-use Rattle.enforcement.specs.Steps.{Checked, passes, refuses, check, target, withHistory, emptied}
+use Rattle.enforcement.specs.Steps.{Checked, passes, refuses, check, target, withHistory, put, emptied}
 use Rattle.enforcement.specs.Gate.{testsSelected, refusedNext, requestNext, passedNext, checkedNext, decide}
 use Rattle.enforcement.specs.Deciding.{isCarried, requestOf, plainNext, eventOf}
 use Rattle.enforcement.specs.declared.states.State.{State}
 use Rattle.steps.specs.declared.answers.Answer.the-variants.{Granted, Broken, Refused}
-use Rattle.enforcement.proofs.Agreement.{nothing-lost, none-ended}
+use Rattle.enforcement.proofs.EndedPairs.{nothing-lost, none-ended}
+use Rattle.enforcement.proofs.Words.{has-put}
 
 -- ---- a step by its checks
 
@@ -93,16 +101,34 @@ pub any-next : (k : ℕ) (p : ℕ → Bool) → any k p ≡ false → p k ≡ fa
 unfolding any
 any-next k p e h = ap (λ (n : ℕ). any n p) (add-one k) ∙ ap₂ _||_ e h
 
+-- ---- a judgement, by what was handed over for the roles that users hold
+
+-- they were, or the step does not read them
+abbrev pub HandedOver : State → Action → List ℕ → Type 0
+HandedOver after action roles = (roles ≡ heldRoles after) ⊎ (readsHeld action ≡ false)
+
+abbrev pub judgedWith : Action → State → List Rule → List ℕ → Judged
+judgedWith action after rules roles =
+    judgedOf (selects action) (view (after .assigned) roles (after .granted) (after .sessions) (after .active) (after .history) (after .time)) rules
+
+judged-same : (rules : List Rule) (after : State) (action : Action) (roles : List ℕ) → HandedOver after action roles → judgedWith action after rules roles ≡ judgedWith action after rules (heldRoles after)
+judged-same rules after action roles (inl same) = ap (judgedWith action after rules) same
+judged-same rules after action roles (inr unread) =
+    held-unread action (after .assigned) roles (heldRoles after) (after .granted) (after .sessions) (after .active) (after .history) (after .time) unread rules
+
 -- ---- a request by its judgement
 
-module _ (rules : List Rule) (s after : State) (action : Action) (judged : Judged) (is : judged ≡ judgedOf (selects action) (viewOf after) rules) where
+module _ (rules : List Rule) (s after : State) (action : Action) (judged : Judged) (roles : List ℕ) (is : judged ≡ judgedWith action after rules roles) (handed : HandedOver after action roles) where
+  judged-after : judged ≡ judgedWith action after rules (heldRoles after)
+  judged-after = is ∙ judged-same rules after action roles handed
+
   lowest-of : (low : Lowest) → lowest (testsSelected (selects action) after) 1 rules ≡ low → judged .broken ≡ low
   unfolding judgedOf
-  lowest-of low e = ap (λ (j : Judged). j .broken) is ∙ e
+  lowest-of low e = ap (λ (j : Judged). j .broken) judged-after ∙ e
 
   number-of : judged .selected ≡ selectedNumber (selects action) rules
   unfolding judgedOf
-  number-of = ap (λ (j : Judged). j .selected) is
+  number-of = ap (λ (j : Judged). j .selected) judged-after
 
   pub request-granted : (ended : ℕ) → judged .broken ≡ Unbroken → ended ≡ pairCount (endedPairs (s .active) (after .active)) → record { state = after; answer = Granted (judged .selected) ended } ≡ requestOf rules s action after
   unfolding requestOf requestNext
@@ -125,15 +151,15 @@ module _ (rules : List Rule) (s after : State) (action : Action) (judged : Judge
 
 -- ---- a request that has passed its checks, by the judgement of its target
 
-module _ (rules : List Rule) (s after : State) (action : Action) (judged : Judged) (is : judged ≡ judgedOf (selects action) (viewOf after) rules) (pass : check s action ≡ passes) (request : isEvent action ≡ false) (aimed : after ≡ target s action) where
+module _ (rules : List Rule) (s after : State) (action : Action) (judged : Judged) (roles : List ℕ) (is : judged ≡ judgedWith action after rules roles) (handed : HandedOver after action roles) (pass : check s action ≡ passes) (request : isEvent action ≡ false) (aimed : after ≡ target s action) where
   decided-at : requestOf rules s action after ≡ decide rules s action
   decided-at = ap (requestOf rules s action) aimed ∙ decide-request rules s action pass request
 
   pub granted-decided : (ended : ℕ) → judged .broken ≡ Unbroken → ended ≡ pairCount (endedPairs (s .active) (after .active)) → record { state = after; answer = Granted (judged .selected) ended } ≡ decide rules s action
-  granted-decided ended e count = request-granted rules s after action judged is ended e count ∙ decided-at
+  granted-decided ended e count = request-granted rules s after action judged roles is handed ended e count ∙ decided-at
 
   pub broken-decided : (rule : ℕ) → judged .broken ≡ BrokenAt rule → refusedNext s (Broken rule (judged .selected)) ≡ decide rules s action
-  broken-decided rule e = request-broken rules s after action judged is rule e ∙ decided-at
+  broken-decided rule e = request-broken rules s after action judged roles is handed rule e ∙ decided-at
 
 -- ---- what the code of a step asks, as its checks say it
 
@@ -143,6 +169,3 @@ not-told e h = sym (ap not e) ∙ h
 pub carries-word : (granted : List ℕ) (r p : ℕ) → r < 32 → hasRole granted r p ≡ member (permissionsOf granted r) p
 unfolding permissionsOf
 carries-word granted r p l = ap (λ (b : Bool). member (cond b (wordAt granted r) 0) p) (sym (lt-ltb r 32 l))
-
-pub outside-none : (words : List ℕ) (i x : ℕ) → length words ≤ i → hasRole words i x ≡ false
-outside-none words i x l = ap (λ (n : ℕ). member n x) (List·getD-eq-default words 0 {n = i} l) ∙ member-empty x

@@ -64,7 +64,7 @@ unrefused false full h = absurd h
 
 -- stands past the end of a list of steps
 abbrev pub noStep : Step
-noStep = record { kind = 0; first = 0; second = 0; third = 0; x = pos 0; y = pos 0 }
+noStep = record { kind = 0; first = 0; second = 0; third = 0; fourth = 0; x = pos 0; y = pos 0 }
 
 -- the state after i steps
 abbrev pub stateAt : RuleList → State → List Step → ℕ → State

@@ -27,11 +27,12 @@ typed-state s us is =
     record {
       users = sym (length-map (s .assigned) _) ∙ fields .1 .0 .1 .0 .1;
       roles = sym (length-map (s .granted) _) ∙ fields .1 .1 .0 .1 .0 .1;
-      allSessions = sym (length-map (s .sessions) _) ∙ fields .1 .1 .1 .0 .1 .0 .1;
-      actives = sym (length-map (s .active) _) ∙ fields .1 .1 .1 .1 .0 .1 .0 .1;
-      records = sym (length-map (s .history) _) ∙ fields .1 .1 .1 .1 .1 .0 .1 .0 .1;
+      allLoans = sym (length-map (s .loans .entries) _) ∙ fields .1 .1 .1 .0 .1 .1 .0 .1 .0 .1;
+      allSessions = sym (length-map (s .sessions) _) ∙ fields .1 .1 .1 .1 .0 .1 .0 .1;
+      actives = sym (length-map (s .active) _) ∙ fields .1 .1 .1 .1 .1 .0 .1 .0 .1;
+      records = sym (length-map (s .history) _) ∙ fields .1 .1 .1 .1 .1 .1 .0 .1 .0 .1;
       smallAssigned = words-small w32 (s .assigned) (fields .1 .0 .0) (fields .1 .0 .1 .1);
       smallGranted = words-small w32 (s .granted) (fields .1 .1 .0 .0) (fields .1 .1 .0 .1 .1);
-      smallActive = words-small w32 (s .active) (fields .1 .1 .1 .1 .0 .0) (fields .1 .1 .1 .1 .0 .1 .1);
-      smallHistory = words-small w64 (s .history) (fields .1 .1 .1 .1 .1 .0 .0) (fields .1 .1 .1 .1 .1 .0 .1 .1);
+      smallActive = words-small w32 (s .active) (fields .1 .1 .1 .1 .1 .0 .0) (fields .1 .1 .1 .1 .1 .0 .1 .1);
+      smallHistory = words-small w64 (s .history) (fields .1 .1 .1 .1 .1 .1 .0 .0) (fields .1 .1 .1 .1 .1 .1 .0 .1 .1);
     }

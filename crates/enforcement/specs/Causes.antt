@@ -4,14 +4,17 @@
 use mathlib.Core.Path.{_≡_}
 use mathlib.Core.Bool.{true, false}
 use mathlib.Core.Logic.{_⊎_}
-use mathlib.Core.List.{List, [], _∷_}
-use Prim.Native.Nat.{ℕ, _≤_, _<_}
+use mathlib.Core.List.{List, [], _∷_, List·Memᴰ}
+use Prim.Native.Nat.{ℕ, suc, _≤_, _<_}
+use lib.ListN.{length, getD}
 use Rattle.places.specs.Places.{positionInRange}
 use Rattle.places.specs.declared.Position.the-variants.{Unknown, Known}
 use Rattle.places.specs.declared.Point.{Point}
 use Rattle.steps.specs.declared.actions.Action.{Action}
-use Rattle.steps.specs.declared.actions.Action.the-variants.{Malformed, Assign, Withdraw, Grant, Take, Open, Activate, Deactivate, Access, Finish, Close, Move, Lost, Clock}
-use Rattle.enforcement.specs.States.{assignedRole, holdsRole, carries, isOpen, userOf, positionOf, activeRole}
+use Rattle.steps.specs.declared.actions.Action.the-variants.{Malformed, Assign, Withdraw, Grant, Take, Open, Activate, Deactivate, Access, Finish, Close, Move, Lost, Clock, Lend, Recall}
+use Rattle.loans.specs.Loans.{key, noLoan}
+use Rattle.loans.specs.declared.Loan.{Loan}
+use Rattle.enforcement.specs.States.{assignedRole, loansOf, holdsRole, carries, isOpen, userOf, positionOf, activeRole}
 use Rattle.enforcement.specs.declared.states.State.{State}
 use Rattle.steps.specs.declared.steps.Step.{Step}
 
@@ -33,6 +36,8 @@ Writes step (Close i) = (step .kind ≡ 9) × (step .first ≡ i) × (i < 32)
 Writes step (Move i point) = (step .kind ≡ 10) × (step .first ≡ i) × (step .x ≡ point .x) × (step .y ≡ point .y) × (i < 32) × (positionInRange (Known point) ≡ true)
 Writes step (Lost i) = (step .kind ≡ 11) × (step .first ≡ i) × (i < 32)
 Writes step (Clock t) = (step .kind ≡ 12) × (step .first ≡ t) × (t ≤ 3155759999)
+Writes step (Lend u v r t) = (step .kind ≡ 13) × (step .first ≡ u) × (step .second ≡ v) × (step .third ≡ r) × (step .fourth ≡ t) × (u < 64) × (v < 64) × (r < 32) × (t ≤ 3155759999)
+Writes step (Recall u v r) = (step .kind ≡ 14) × (step .first ≡ u) × (step .second ≡ v) × (step .third ≡ r) × (u < 64) × (v < 64) × (r < 32)
 
 -- the table's second column: the numbers of a step's checks before 30, in their order
 abbrev pub checksOf : Action → List ℕ
@@ -50,6 +55,9 @@ checksOf (Close i) = 23 ∷ []
 checksOf (Move i point) = 23 ∷ []
 checksOf (Lost i) = 23 ∷ []
 checksOf (Clock t) = 21 ∷ []
+-- 2026-01: "lend checks 20, 50, 24, 52, 51, 30"
+checksOf (Lend u v r t) = 50 ∷ 24 ∷ 52 ∷ 51 ∷ []
+checksOf (Recall u v r) = 25 ∷ []
 
 -- the cause of a number for a step: one line for each number in the table's second column
 pub data Cause (s : State) : Action → ℕ → Type 0 where
@@ -69,16 +77,25 @@ pub data Cause (s : State) : Action → ℕ → Type 0 where
   assign-already : (u r : ℕ) → holdsRole s u r ≡ true → Cause s (Assign u r) 24
   grant-already : (r p : ℕ) → carries s r p ≡ true → Cause s (Grant r p) 24
   activate-already : (i r : ℕ) → activeRole s i r ≡ true → Cause s (Activate i r) 24
+  lend-already : (u v r t : ℕ) → holdsRole s v r ≡ true → Cause s (Lend u v r t) 24
   -- "not assigned, granted, active in this session"
   withdraw-not : (u r : ℕ) → assignedRole s u r ≡ false → Cause s (Withdraw u r) 25
   take-not : (r p : ℕ) → carries s r p ≡ false → Cause s (Take r p) 25
   deactivate-not : (i r : ℕ) → activeRole s i r ≡ false → Cause s (Deactivate i r) 25
+  -- 2026-01: "is 25 where there is none"
+  recall-none : (u v r : ℕ) → ((loan : Loan) → List·Memᴰ loan (loansOf s) → loan .lender ≡ u → loan .borrower ≡ v → loan .role ≡ r → ⊥) → Cause s (Recall u v r) 25
   -- "role not assigned to the session's user"
   activate-unheld : (i r : ℕ) → holdsRole s (userOf s i) r ≡ false → Cause s (Activate i r) 26
   -- "role active in a session of the user"
   withdraw-active : (u r i : ℕ) → i < 32 → userOf s i ≡ u → activeRole s i r ≡ true → Cause s (Withdraw u r) 27
+  -- 2026-01: "also while the user has the role lent out"
+  withdraw-lent-out : (u r : ℕ) (loan : Loan) → List·Memᴰ loan (loansOf s) → loan .lender ≡ u → loan .role ≡ r → Cause s (Withdraw u r) 27
   -- "no role active in the session carries the permission"
   access-uncarried : (i p o : ℕ) → ((r : ℕ) → r < 32 → activeRole s i r ≡ true → carries s r p ≡ true → ⊥) → Cause s (Access i p o) 28
+  -- 2026-01: "50 u isn't assigned r, 51 32 loans run, 52 t not later than now"
+  lend-unassigned : (u v r t : ℕ) → assignedRole s u r ≡ false → Cause s (Lend u v r t) 50
+  lend-full : (u v r t : ℕ) → 32 ≤ s .loans .count → Cause s (Lend u v r t) 51
+  lend-ended : (u v r t : ℕ) → t ≤ s .time → Cause s (Lend u v r t) 52
 
 -- of a step's numbers, the first whose cause is there
 abbrev pub FirstCause : State → Action → List ℕ → ℕ → Type 0
@@ -95,3 +112,7 @@ pub data Unaccepted (s : State) : Type 0 where
   keeps-user : (i : ℕ) → i < 32 → isOpen s i ≡ false → (userOf s i ≡ 0 → ⊥) → Unaccepted s
   keeps-position : (i : ℕ) → i < 32 → isOpen s i ≡ false → (positionOf s i ≡ Unknown → ⊥) → Unaccepted s
   keeps-role : (i r : ℕ) → i < 32 → isOpen s i ≡ false → activeRole s i r ≡ true → Unaccepted s
+  -- 2026-01: "up to 32 loans, kept in ascending order, at most one for the same u, v and r (handed in otherwise: 40)"
+  too-many-loans : 32 < s .loans .count → Unaccepted s
+  loan-past : (loan : Loan) → List·Memᴰ loan (loansOf s) → (64 ≤ loan .lender) ⊎ ((64 ≤ loan .borrower) ⊎ ((32 ≤ loan .role) ⊎ (3155759999 < loan .until))) → Unaccepted s
+  loans-unordered : (k : ℕ) → suc k < length (loansOf s) → key (getD (loansOf s) (suc k) noLoan) ≤ key (getD (loansOf s) k noLoan) → Unaccepted s

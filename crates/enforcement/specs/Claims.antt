@@ -15,9 +15,9 @@ use Rattle.rules.specs.declared.families.Rule.the-variants.{Prerequisite, MaxUs
 use Rattle.rules.specs.declared.lists.RuleList.{RuleList}
 use Rattle.steps.specs.Steps.{actionOf, isEvent}
 use Rattle.steps.specs.declared.actions.Action.{Action}
-use Rattle.steps.specs.declared.actions.Action.the-variants.{Close}
+use Rattle.steps.specs.declared.actions.Action.the-variants.{Malformed, Assign, Withdraw, Grant, Take, Open, Activate, Deactivate, Access, Finish, Close, Move, Lost, Clock, Lend, Recall}
 use Rattle.steps.specs.declared.steps.Step.{Step}
-use Rattle.enforcement.specs.States.{fresh, assignedRole, holdsRole, carries, isOpen, userOf, positionOf, activeRole, did}
+use Rattle.enforcement.specs.States.{fresh, assignedRole, loansOf, holdsRole, carries, isOpen, userOf, positionOf, activeRole, did}
 use Rattle.enforcement.specs.Steps.{passes, check, target, withActive}
 use Rattle.enforcement.specs.Decisions.{granted, refused}
 use Rattle.enforcement.specs.Gate.{runOf, decisionOf, namedRule}
@@ -42,7 +42,7 @@ Holds (MaxRoles n) s = (u : ℕ) → u < 64 → count 32 (holdsRole s u) ≤ n
 Holds (MaxPermissions r n) s = count 32 (carries s r) ≤ n
 -- each session has at most n active roles
 Holds (MaxActive n) s = (i : ℕ) → i < 32 → count 32 (activeRole s i) ≤ n
--- "no user is assigned both"
+-- "no user is assigned both"; 2026-01: "max-users, max-roles and apart read held"
 Holds (StaticSeparation r q) s = (u : ℕ) → u < 64 → holdsRole s u r ≡ true → holdsRole s u q ≡ true → ⊥
 -- "no user has both active, over all his sessions"
 Holds (DynamicSeparation r q) s =
@@ -66,6 +66,9 @@ SameTime s t = t .time ≡ s .time
 
 abbrev pub SameAssigned : State → State → Type 0
 SameAssigned s t = (u r : ℕ) → assignedRole t u r ≡ assignedRole s u r
+
+abbrev pub SameLoans : State → State → Type 0
+SameLoans s t = loansOf t ≡ loansOf s
 
 abbrev pub SameCarried : State → State → Type 0
 SameCarried s t = (r p : ℕ) → carries t r p ≡ carries s r p
@@ -100,9 +103,28 @@ After Says steps list = Along (λ s step given. Says (given .state)) fresh steps
 
 -- ---- "After an event the roles still active are the largest part under which all rules hold."
 
--- active before the event, in a session that it does not itself close
+-- what an event itself closes: the roles of a closed session; 2026-01: recall and clock "close every active role not held"
+abbrev pub Closes : State → Action → ℕ → ℕ → Type 0
+Closes s Malformed i r = ⊥
+Closes s (Assign u q) i r = ⊥
+Closes s (Withdraw u q) i r = ⊥
+Closes s (Grant q p) i r = ⊥
+Closes s (Take q p) i r = ⊥
+Closes s (Open j u) i r = ⊥
+Closes s (Activate j q) i r = ⊥
+Closes s (Deactivate j q) i r = ⊥
+Closes s (Access j p o) i r = ⊥
+Closes s (Finish o) i r = ⊥
+Closes s (Close j) i r = j ≡ i
+Closes s (Move j point) i r = ⊥
+Closes s (Lost j) i r = ⊥
+Closes s (Clock t) i r = holdsRole (target s (Clock t)) (userOf s i) r ≡ false
+Closes s (Lend u v q t) i r = ⊥
+Closes s (Recall u v q) i r = holdsRole (target s (Recall u v q)) (userOf s i) r ≡ false
+
+-- active before the event, and not closed by the event itself
 abbrev pub Unclosed : State → Action → ℕ → ℕ → Type 0
-Unclosed s action i r = (activeRole s i r ≡ true) × (action ≡ Close i → ⊥)
+Unclosed s action i r = (activeRole s i r ≡ true) × (Closes s action i r → ⊥)
 
 -- "a part is any choice of them, all else as in the target, and the largest contains every other such part"
 pub record LargestLeft (rules : List Rule) (s : State) (action : Action) (after : State) : Type 0 where

@@ -19,8 +19,11 @@ use Rattle.steps.specs.Pairs.{endedPairs, pairCount}
 use Rattle.selection.specs.Selection.{selects, selectedNumber}
 use Rattle.selection.specs.Ending.{lets}
 use Rattle.steps.specs.declared.actions.Action.{Action}
-use Rattle.enforcement.specs.States.{isOpen, activeRole}
-use Rattle.enforcement.specs.Steps.{withAssigned, withActive, placed}
+use Rattle.loans.specs.Loans.{noLoans, stored, inserted}
+use Rattle.loans.specs.declared.Loan.{Loan}
+use Rattle.loans.specs.declared.Loans.{Loans}
+use Rattle.enforcement.specs.States.{loansOf, isOpen, activeRole}
+use Rattle.enforcement.specs.Steps.{withAssigned, withLoans, withActive, placed, unheldClosed}
 use Rattle.enforcement.specs.Gate.{testsSelected, refusedNext, requestNext}
 use Rattle.enforcement.specs.Rounds.{keeps, stays, remaining}
 use Rattle.enforcement.specs.declared.states.State.{State}
@@ -32,11 +35,17 @@ use Rattle.enforcement.specs.declared.states.Next.{Next}
 use Rattle.enforcement.specs.declared.events.Plan.{Plan}
 use Rattle.enforcement.specs.declared.events.Left.{Left}
 
+-- ---- 40
+
+-- the state as far as 40 looks at it
+abbrev pub lookedAt : Loans → List Session → List ℕ → ℕ → State
+lookedAt loans sessions active time = record { time = time; assigned = []; granted = []; loans = loans; sessions = sessions; active = active; history = [] }
+
 -- ---- an event
 
 -- the state as far as the rules that end roles read it
 abbrev pub context : List Session → List ℕ → ℕ → State
-context sessions active time = record { time = time; assigned = []; granted = []; sessions = sessions; active = active; history = [] }
+context sessions active time = lookedAt noLoans sessions active time
 
 -- what is left of the active pairs, and how many rules are selected
 unfoldable pub leftOf : (Rule → Bool) → List Rule → State → Left
@@ -70,7 +79,7 @@ pub record RuledOut (n : ℕ) (out : List ℕ) (sessions : List Session) (active
 
 -- a state but for its history, and a state by that and its history
 abbrev pub configurationOf : State → Configuration
-configurationOf s = record { time = s .time; assigned = s .assigned; granted = s .granted; sessions = s .sessions; active = s .active }
+configurationOf s = record { time = s .time; assigned = s .assigned; granted = s .granted; loans = s .loans; sessions = s .sessions; active = s .active }
 
 abbrev pub stateWith : Configuration → List ℕ → State
 stateWith configuration history =
@@ -78,6 +87,7 @@ stateWith configuration history =
       time = configuration .time;
       assigned = configuration .assigned;
       granted = configuration .granted;
+      loans = configuration .loans;
       sessions = configuration .sessions;
       active = configuration .active;
       history = history;
@@ -93,6 +103,10 @@ nextOf next history = record { state = stateWith (next .configuration) history; 
 -- other roles of one user, and of one session
 abbrev pub withUserRoles : ℕ → ℕ → State → State
 withUserRoles user roles s = withAssigned s (set (s .assigned) user roles)
+
+-- one loan more
+abbrev pub withLoan : Loan → State → State
+withLoan loan s = withLoans s (stored (inserted loan (loansOf s)))
 
 abbrev pub withSessionRoles : ℕ → ℕ → State → State
 withSessionRoles i roles s = withActive s (set (s .active) i roles)
@@ -113,6 +127,10 @@ eventOf rules before s action =
       state = withActive s (remaining (selects action) rules s);
       answer = Granted (selectedNumber (selects action) rules) (pairCount (endedPairs before (remaining (selects action) rules s)));
     }
+
+-- the same for an event that itself closes the roles that are not held
+abbrev pub heldEventOf : List Rule → List ℕ → State → Action → Next
+heldEventOf rules before s action = eventOf rules before (unheldClosed s) action
 
 -- one of the roles of a set carries the permission
 unfoldable pub isCarried : List ℕ → ℕ → ℕ → Bool

@@ -11,8 +11,8 @@ use Rattle.rules.specs.Families.{isActive}
 use Rattle.rules.specs.Acceptance.{every}
 use Rattle.rules.specs.declared.families.Rule.{Rule}
 use Rattle.rules.specs.declared.families.Rule.the-variants.{Prerequisite, MaxUsers, MaxRoles, MaxPermissions, MaxActive, StaticSeparation, DynamicSeparation, Dependency, TimeContext, LocationContext, HistorySeparation, BindingOfDuty}
-use Rattle.steps.specs.Pairs.{pairCount}
-use Rattle.selection.specs.Ending.{sifted, settled}
+use Rattle.steps.specs.Pairs.{pairCount, sifted}
+use Rattle.selection.specs.Ending.{settled}
 use Rattle.enforcement.specs.States.{positionOf}
 use Rattle.enforcement.specs.declared.states.State.{State}
 

@@ -13,6 +13,8 @@ use Rattle.rules.specs.Families.{View, view, wordAt, hasRole, closedSession, se
 use Rattle.rules.specs.declared.families.Rule.{Rule}
 use Rattle.rules.specs.declared.sessions.Session.{Session}
 use Rattle.steps.specs.Steps.{isTime}
+use Rattle.loans.specs.Loans.{running, noLoans, loansAccepted, isBorrowed, isLentOut, heldWith}
+use Rattle.loans.specs.declared.Loan.{Loan}
 use Rattle.enforcement.specs.declared.states.State.{State}
 
 -- "Fresh: time 0, all else empty."
@@ -22,6 +24,7 @@ fresh =
       time = 0;
       assigned = replicate 64 0;
       granted = replicate 32 0;
+      loans = noLoans;
       sessions = replicate 32 closedSession;
       active = replicate 32 0;
       history = replicate 1024 0;
@@ -34,11 +37,23 @@ fresh =
 abbrev pub assignedRole : State → ℕ → ℕ → Bool
 assignedRole s u r = hasRole (s .assigned) u r
 
--- the roles that users hold: those that they are assigned
-abbrev pub heldRoles : State → List ℕ
-heldRoles s = s .assigned
+-- the loans that run
+abbrev pub loansOf : State → List Loan
+loansOf s = running (s .loans)
 
--- user u holds role r
+-- user v has role r on loan
+abbrev pub borrowedRole : State → ℕ → ℕ → Bool
+borrowedRole s v r = isBorrowed (loansOf s) v r
+
+-- user u has role r lent out
+abbrev pub lentOutRole : State → ℕ → ℕ → Bool
+lentOutRole s u r = isLentOut (loansOf s) u r
+
+-- the roles that users hold. 2026-01: "A role is held when assigned or on loan"
+abbrev pub heldRoles : State → List ℕ
+heldRoles s = heldWith (s .assigned) (loansOf s)
+
+-- user u holds role r; that this is to be assigned it or to have it on loan is `holds-means` of proofs/Loans.antt
 abbrev pub holdsRole : State → ℕ → ℕ → Bool
 holdsRole s u r = hasRole (heldRoles s) u r
 
@@ -72,7 +87,8 @@ viewOf s = view (s .assigned) (heldRoles s) (s .granted) (s .sessions) (s .activ
 abbrev pub ruleHolds : Rule → State → Bool
 ruleHolds rule s = holds rule (viewOf s)
 
--- ---- "handed-in state ..: field outside its range, closed session that keeps anything" is 40
+-- ---- "handed-in state ..: field outside its range, closed session that keeps anything" is 40; 2026-01: loans "kept in ascending order, at
+-- most one for the same u, v and r (handed in otherwise: 40)"
 
 abbrev pub isUnknown : Position → Bool
 isUnknown Unknown = true
@@ -86,4 +102,5 @@ sessionAccepted session roles =
     (eqb (session .user) 0 && (isUnknown (session .position) && isEmpty roles))
 
 unfoldable pub stateAccepted : State → Bool
-stateAccepted s = isTime (s .time) && all 32 (λ i. sessionAccepted (sessionAt (s .sessions) i) (wordAt (s .active) i))
+stateAccepted s =
+    isTime (s .time) && (loansAccepted (s .loans) && all 32 (λ i. sessionAccepted (sessionAt (s .sessions) i) (wordAt (s .active) i)))

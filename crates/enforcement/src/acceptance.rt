@@ -1,9 +1,12 @@
-// What 40 looks for in a state: a field outside its range, or a closed session that keeps anything.
+// What 40 looks for in a state: a field outside its range, a closed session that keeps anything, or loans that are not in order.
 ghost use mathlib.Core.Path.{_≡_};
 ghost use Rattle.enforcement.specs.States.{isUnknown, sessionAccepted, stateAccepted};
-ghost use Rattle.enforcement.specs.Deciding.{context};
+ghost use Rattle.sets.specs.Sets.{all};
+ghost use Rattle.rules.specs.Families.{wordAt, sessionAt};
+ghost use Rattle.enforcement.specs.Deciding.{lookedAt};
 use crate::states::State;
 use calendar::Term;
+use loans::Loans;
 use places::Position;
 use rules::Session;
 use sets::word32;
@@ -14,19 +17,34 @@ impl State {
     pub fn is_accepted(self) -> bool
         ensures { λ r. ⌜ r ≡ stateAccepted self ⌝ }
     {
+        let loans = self.loans;
         let sessions = self.sessions;
         let time = self.time;
-        is_accepted(sessions, &self.active, time)
+        is_accepted(loans, sessions, &self.active, time)
     }
 }
 
-// 40 does not refuse a state with these sessions, active roles and time; all else of a state is in range by its type.
-pub(crate) fn is_accepted(sessions: [Session; 32], active: &[u32; 32], time: u64) -> bool
-    ensures { λ r. ⌜ r ≡ stateAccepted (context sessions (now (active .entry)) time) ⌝ }
+// 40 does not refuse a state with these loans, sessions, active roles and time; all else of a state is in range by its type.
+pub(crate) fn is_accepted(
+    loans: Loans,
+    sessions: [Session; 32],
+    active: &[u32; 32],
+    time: u64,
+) -> bool
+    ensures { λ r. ⌜ r ≡ stateAccepted (lookedAt loans sessions (now (active .entry)) time) ⌝ }
 {
     if Term::LAST_TIME < time {
         return false;
     }
+    if !loans.is_accepted() {
+        return false;
+    }
+    sessions_accepted(sessions, active)
+}
+
+fn sessions_accepted(sessions: [Session; 32], active: &[u32; 32]) -> bool
+    ensures { λ r. ⌜ r ≡ all 32 (λ i. sessionAccepted (sessionAt sessions i) (wordAt (now (active .entry)) i)) ⌝ }
+{
     let mut i: usize = 0;
     'sessions: loop {
         if i == 32 {

@@ -39,9 +39,10 @@ impl State {
         let mut entries = [Entry {
             answer: Answer::Refused { number: 40 },
         }; 32];
+        let loans = self.loans;
         let sessions = self.sessions;
         let time = self.time;
-        if !(list.is_accepted() & is_accepted(sessions, &self.active, time)) {
+        if !(list.is_accepted() & is_accepted(loans, sessions, &self.active, time)) {
             return BatchRun {
                 state: self,
                 entries,

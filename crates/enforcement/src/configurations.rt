@@ -7,6 +7,7 @@ ghost use Rattle.steps.specs.Steps.{actionOf};
 ghost use Rattle.enforcement.specs.Gate.{decide};
 ghost use Rattle.enforcement.specs.Deciding.{stateWith, nextOf, answered};
 use crate::states::State;
+use loans::Loans;
 use rules::RuleList;
 use rules::Session;
 use steps::Action;
@@ -18,6 +19,7 @@ pub struct Configuration {
     pub time: u64,
     pub assigned: [u32; 64],
     pub granted: [u32; 32],
+    pub loans: Loans,
     pub sessions: [Session; 32],
     pub active: [u32; 32],
 }
@@ -58,6 +60,17 @@ impl Configuration {
             Action::Move { session, point } => self.move_to(list, session, point),
             Action::Lost { session } => self.lost(list, session),
             Action::Clock { time } => self.clock(list, time),
+            Action::Lend {
+                lender,
+                borrower,
+                role,
+                until,
+            } => self.lend(list, lender, borrower, role, until, history),
+            Action::Recall {
+                lender,
+                borrower,
+                role,
+            } => self.recall(list, lender, borrower, role),
         }
     }
 
@@ -96,12 +109,14 @@ impl Configuration {
     {
         let assigned = self.assigned;
         let granted = self.granted;
+        let loans = self.loans;
         let sessions = self.sessions;
         let active = self.active;
         State {
             time: self.time,
             assigned,
             granted,
+            loans,
             sessions,
             active,
             history,

@@ -12,9 +12,10 @@ ghost use Rattle.rules.specs.Families.{wordAt};
 ghost use Rattle.selection.specs.Selection.{selects};
 ghost use Rattle.selection.specs.Choices.{chosen};
 ghost use Rattle.enforcement.specs.Gate.{decide};
-ghost use Rattle.enforcement.specs.Deciding.{stateWith, nextOf, eventOf, placedOf, context, leftOf, Planned, Adds, RuledOut, countedPlan};
+ghost use Rattle.enforcement.specs.Deciding.{stateWith, nextOf, eventOf, heldEventOf, placedOf, context, leftOf, Planned, Adds, RuledOut, countedPlan};
 use crate::configurations::Configuration;
 use crate::configurations::NextConfiguration;
+use loans::Which;
 use places::Point;
 use places::Position;
 use places::Side;
@@ -23,6 +24,7 @@ use rules::RuleList;
 use rules::Session;
 use rules::tests::active_somewhere;
 use selection::Choice;
+use selection::rounds::held_active;
 use selection::rounds::plan_settled;
 use selection::selection::choice_of;
 use selection::selection::first_of;
@@ -97,8 +99,57 @@ impl Configuration {
             return self.refused(21);
         }
         let before = self.active;
+        let loans = self.loans;
         self.time = time;
-        self.after_event(list, Action::Clock { time }, before)
+        self.loans = loans.kept(Which::Longer { time });
+        self.after_loans(list, Action::Clock { time }, before)
+    }
+
+    pub(crate) fn recall(
+        mut self,
+        list: RuleList,
+        lender: usize,
+        borrower: usize,
+        role: usize,
+    ) -> NextConfiguration
+        requires { ⌜ list .length ≤ 128 ⌝ }
+        ensures { λ r. ⌜ ((history : List ℕ) → nextOf r history ≡ decide (rulesOf list) (stateWith self history) (Action.Recall lender borrower role)) ⌝ }
+    {
+        let loans = self.loans;
+        if !loans.has_some(Which::Named {
+            lender,
+            borrower,
+            role,
+        }) {
+            return self.refused(25);
+        }
+        let before = self.active;
+        self.loans = loans.kept(Which::Others {
+            lender,
+            borrower,
+            role,
+        });
+        let action = Action::Recall {
+            lender,
+            borrower,
+            role,
+        };
+        self.after_loans(list, action, before)
+    }
+
+    // An event that may have ended loans itself closes every active role that is not held, before the rules are looked at.
+    fn after_loans(mut self, list: RuleList, action: Action, before: [u32; 32]) -> NextConfiguration
+        requires { ⌜ (list .length ≤ 128) × (length before ≡ 32) ⌝ }
+        ensures { λ r. ⌜ ((history : List ℕ) → nextOf r history ≡ heldEventOf (rulesOf list) before (stateWith self history) action) ⌝ }
+    {
+        let assigned = self.assigned;
+        let loans = self.loans;
+        let held = loans.held(assigned);
+        let sessions = self.sessions;
+        let active = self.active;
+        let kept = held_active(held, sessions, active);
+        self.active = kept;
+        self.after_event(list, action, before)
     }
 
     // An event's target, with the roles ended that the rules want ended.

@@ -1,15 +1,20 @@
 // The requests, with numbers in range: the checks of the table's second column, the change, and the old word put back where a selected rule is
 // broken.
 ghost use mathlib.Core.Path.{_≡_};
+ghost use mathlib.Core.Bool.{false};
 ghost use mathlib.Core.List.{List};
 ghost use Prim.Native.Nat.{ℕ, _<_, _≤_};
 ghost use lib.ListN.{length};
 ghost use Rattle.rules.specs.Acceptance.{rulesOf};
-ghost use Rattle.rules.specs.Families.{hasRole, isActiveFor};
+ghost use Rattle.rules.specs.Families.{isActiveFor};
+ghost use Rattle.selection.specs.Judging.{readsHeld};
 ghost use Rattle.enforcement.specs.Gate.{decide};
-ghost use Rattle.enforcement.specs.Deciding.{stateWith, nextOf, isCarried, withUserRoles, withSessionRoles, requestBy};
+ghost use Rattle.enforcement.specs.Deciding.{stateWith, nextOf, isCarried, withUserRoles, withSessionRoles, withLoan, requestBy};
 use crate::configurations::Configuration;
 use crate::configurations::NextConfiguration;
+use loans::Loan;
+use loans::Which;
+use loans::has_ended;
 use places::Position;
 use rules::RuleList;
 use rules::Session;
@@ -31,10 +36,12 @@ impl Configuration {
         requires { ⌜ (list .length ≤ 128) × (user < 64) × (role < 32) ⌝ }
         ensures { λ r. ⌜ nextOf r (now (history .entry)) ≡ decide (rulesOf list) (stateWith self (now (history .entry))) (Action.Assign user role) ⌝ }
     {
-        let roles = self.assigned[user];
-        if word32::member(roles, role) {
+        let assigned = self.assigned;
+        let loans = self.loans;
+        if loans.is_held(assigned, user, role) {
             return self.refused(24);
         }
+        let roles = self.assigned[user];
         let more = word32::with(roles, role);
         self.with_assigned(list, Action::Assign { user, role }, user, more, history)
     }
@@ -54,7 +61,10 @@ impl Configuration {
             return self.refused(25);
         }
         let sessions = self.sessions;
-        if is_active_for(sessions, &self.active, user, role) {
+        let loans = self.loans;
+        if is_active_for(sessions, &self.active, user, role)
+            | loans.has_some(Which::LentOut { lender: user, role })
+        {
             return self.refused(27);
         }
         let less = word32::without(roles, role);
@@ -74,12 +84,16 @@ impl Configuration {
     {
         let old = self.assigned[user];
         self.assigned[user] = roles;
+        let assigned = self.assigned;
+        let loans = self.loans;
+        let held = loans.held(assigned);
         let sessions = self.sessions;
         let time = self.time;
         let judged = judge(
             list,
             action,
             &self.assigned,
+            &held,
             &self.granted,
             sessions,
             &self.active,
@@ -115,6 +129,7 @@ impl Configuration {
         let judged = judge(
             list,
             Action::Grant { role, permission },
+            &self.assigned,
             &self.assigned,
             &self.granted,
             sessions,
@@ -187,7 +202,9 @@ impl Configuration {
         if word32::member(roles, role) {
             return self.refused(24);
         }
-        if !has_role(&self.assigned, place.user, role) {
+        let assigned = self.assigned;
+        let loans = self.loans;
+        if !loans.is_held(assigned, place.user as usize, role) {
             return self.refused(26);
         }
         let more = word32::with(roles, role);
@@ -236,7 +253,7 @@ impl Configuration {
         roles: u32,
         history: &[u64; 1024],
     ) -> NextConfiguration
-        requires { ⌜ (list .length ≤ 128) × (session < 32) ⌝ }
+        requires { ⌜ (list .length ≤ 128) × (session < 32) × (readsHeld action ≡ false) ⌝ }
         ensures { λ r. ⌜ nextOf r (now (history .entry)) ≡ requestBy (rulesOf list) (stateWith self (now (history .entry))) action (withSessionRoles session roles) ⌝ }
     {
         let old = self.active[session];
@@ -246,6 +263,7 @@ impl Configuration {
         let judged = judge(
             list,
             action,
+            &self.assigned,
             &self.assigned,
             &self.granted,
             sessions,
@@ -295,6 +313,7 @@ impl Configuration {
             list,
             action,
             &self.assigned,
+            &self.assigned,
             &self.granted,
             sessions,
             &self.active,
@@ -325,18 +344,85 @@ impl Configuration {
         }
         self.granted(0, 0)
     }
-}
 
-// A user holds a role; one past the last holds none.
-fn has_role(held: &[u32; 64], user: u32, role: usize) -> bool
-    requires { ⌜ length (now held) ≡ 64 ⌝ }
-    ensures { λ r. ⌜ r ≡ hasRole (now (held .entry)) user role ⌝ }
-{
-    let i = user as usize;
-    if 64 <= i {
-        return false;
+    pub(crate) fn lend(
+        self,
+        list: RuleList,
+        lender: usize,
+        borrower: usize,
+        role: usize,
+        until: u64,
+        history: &[u64; 1024],
+    ) -> NextConfiguration
+        requires { ⌜ (list .length ≤ 128) × (lender < 64) × (borrower < 64) × (role < 32) × (until ≤ 3155759999) ⌝ }
+        ensures { λ r. ⌜ nextOf r (now (history .entry)) ≡ decide (rulesOf list) (stateWith self (now (history .entry))) (Action.Lend lender borrower role until) ⌝ }
+    {
+        let roles = self.assigned[lender];
+        if !word32::member(roles, role) {
+            return self.refused(50);
+        }
+        let assigned = self.assigned;
+        let loans = self.loans;
+        if loans.is_held(assigned, borrower, role) {
+            return self.refused(24);
+        }
+        if has_ended(until, self.time) {
+            return self.refused(52);
+        }
+        if loans.is_full() {
+            return self.refused(51);
+        }
+        let action = Action::Lend {
+            lender,
+            borrower,
+            role,
+            until,
+        };
+        let loan = Loan {
+            until: until as u32,
+            lender: lender as u8,
+            borrower: borrower as u8,
+            role: role as u8,
+        };
+        self.with_loan(list, action, loan, history)
     }
-    word32::member(held[i], role)
+
+    fn with_loan(
+        mut self,
+        list: RuleList,
+        action: Action,
+        loan: Loan,
+        history: &[u64; 1024],
+    ) -> NextConfiguration
+        requires { ⌜ list .length ≤ 128 ⌝ }
+        ensures { λ r. ⌜ nextOf r (now (history .entry)) ≡ requestBy (rulesOf list) (stateWith self (now (history .entry))) action (withLoan loan) ⌝ }
+    {
+        let old = self.loans;
+        let assigned = self.assigned;
+        let more = old.with(loan);
+        let held = more.held(assigned);
+        self.loans = more;
+        let sessions = self.sessions;
+        let time = self.time;
+        let judged = judge(
+            list,
+            action,
+            &self.assigned,
+            &held,
+            &self.granted,
+            sessions,
+            &self.active,
+            history,
+            time,
+        );
+        let broken = judged.broken;
+        let selected = judged.selected;
+        let Lowest::BrokenAt(rule) = broken else {
+            return self.granted(selected, 0);
+        };
+        self.loans = old;
+        self.refused_by_rule(rule, selected)
+    }
 }
 
 // A user has a role active in some session of his.

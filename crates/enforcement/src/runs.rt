@@ -61,9 +61,10 @@ fn admit(list: RuleList, state: State, steps: usize, room: usize) -> Admission
             count: 0,
         };
     }
+    let loans = state.loans;
     let sessions = state.sessions;
     let time = state.time;
-    if !is_accepted(sessions, &state.active, time) {
+    if !is_accepted(loans, sessions, &state.active, time) {
         return Admission {
             number: 40,
             count: 0,

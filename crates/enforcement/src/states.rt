@@ -1,4 +1,4 @@
-// The state: who is assigned what, which role carries which permission, the sessions, and who did what on which object.
+// The state: who is assigned what, which role carries which permission, the loans, the sessions, and who did what on which object.
 ghost use mathlib.Core.Path.{_≡_};
 ghost use mathlib.Core.Bool.{true};
 ghost use Rattle.rules.specs.Acceptance.{rulesOf, listAccepted};
@@ -9,6 +9,7 @@ ghost use Rattle.enforcement.specs.Gate.{refusedNext, stepOf};
 ghost use Rattle.enforcement.specs.Deciding.{configurationOf};
 use crate::acceptance::is_accepted;
 use crate::configurations::Configuration;
+use loans::Loans;
 use places::Position;
 use rules::RuleList;
 use rules::Session;
@@ -21,6 +22,7 @@ pub struct State {
     pub assigned: [u32; 64],
     // The permissions of each role.
     pub granted: [u32; 32],
+    pub loans: Loans,
     pub sessions: [Session; 32],
     // The active roles of each session.
     pub active: [u32; 32],
@@ -43,6 +45,7 @@ impl State {
             time: 0,
             assigned: [0; 64],
             granted: [0; 32],
+            loans: Loans::none(),
             sessions: [Session {
                 is_open: false,
                 user: 0,
@@ -62,9 +65,10 @@ impl State {
         if !list.is_accepted() {
             return self.refused(40);
         }
+        let loans = self.loans;
         let sessions = self.sessions;
         let time = self.time;
-        if !is_accepted(sessions, &self.active, time) {
+        if !is_accepted(loans, sessions, &self.active, time) {
             return self.refused(40);
         }
         let mut history = self.history;
@@ -83,12 +87,14 @@ impl State {
     {
         let assigned = self.assigned;
         let granted = self.granted;
+        let loans = self.loans;
         let sessions = self.sessions;
         let active = self.active;
         Configuration {
             time: self.time,
             assigned,
             granted,
+            loans,
             sessions,
             active,
         }

@@ -10,6 +10,7 @@ use calendar::Term;
 use enforcement::Ran;
 use enforcement::Session;
 use enforcement::State;
+use loans::Loan;
 use places::Shape;
 use places::Side;
 use rules::Rule;
@@ -43,6 +44,7 @@ fn main() {
         line(sum_of(2, 16, true));
         line(sum_of(3, 16, true));
         line(sum_of(4, 16, true));
+        line(sum_of(5, 16, true));
         show_short_room();
         return;
     }
@@ -54,12 +56,12 @@ fn main() {
 // One entry too few for the steps: 18, and each entry and the state stay. It prints the number, the checksum of the entries handed in and
 // of those handed back, and the same of the state.
 fn show_short_room() {
-    let list = rules_of(3);
-    let batch = batch_of(3, 0, 102);
+    let list = rules_of(5);
+    let going = going_after(5, 16, true);
+    let before = going.state;
+    let seed = going.seed;
+    let batch = batch_of(5, 16, seed);
     let steps = batch.steps;
-    let mut answers = [0u64; 256];
-    let ran = run_batch(steps, 256, list, State::fresh(), &mut answers);
-    let before = ran.state;
     let mut few = [7u64; 255];
     let entries = with_entries(0, &few);
     let refused = run_batch(steps, 256, list, before, &mut few);
@@ -84,6 +86,14 @@ fn wide(byte: u8) -> u64 {
 fn sum_of(which: u64, batches: u64, is_run: bool) -> u64
     requires { ⌜ (which ≤ 16) × (batches ≤ 4096) ⌝ }
 {
+    let going = going_after(which, batches, is_run);
+    going.sum
+}
+
+// A list's first batches from a fresh state.
+fn going_after(which: u64, batches: u64, is_run: bool) -> Going
+    requires { ⌜ (which ≤ 16) × (batches ≤ 4096) ⌝ }
+{
     let list = rules_of(which);
     let mut going = Going {
         state: State::fresh(),
@@ -93,7 +103,7 @@ fn sum_of(which: u64, batches: u64, is_run: bool) -> u64
     for number in 0..batches {
         going = with_batch(going, list, which, number, is_run);
     }
-    going.sum
+    going
 }
 
 // One batch more.
@@ -150,8 +160,11 @@ fn with_entries(sum: u64, entries: &[u64; 255]) -> u64 {
 // The checksum of a state but for the sessions' positions.
 fn with_state(state: State) -> u64 {
     let sessions = state.sessions;
-    let held = with_roles(state.time, &state.assigned);
-    let open = with_sessions(held, sessions, &state.granted, &state.active);
+    let loans = state.loans;
+    let entries = loans.entries;
+    let assigned = with_roles(state.time, &state.assigned);
+    let lent = with_loans(added(assigned, loans.count as u64), entries);
+    let open = with_sessions(lent, sessions, &state.granted, &state.active);
     with_history(open, &state.history)
 }
 
@@ -159,6 +172,17 @@ fn with_roles(sum: u64, assigned: &[u32; 64]) -> u64 {
     let mut total = sum;
     for i in 0..64 {
         total = added(total, wide_word(assigned[i]));
+    }
+    total
+}
+
+fn with_loans(sum: u64, entries: [Loan; 32]) -> u64 {
+    let mut total = sum;
+    for i in 0..32 {
+        let loan = entries[i];
+        let lender = added(total, wide(loan.lender));
+        let borrower = added(lender, wide(loan.borrower));
+        total = added(added(borrower, wide(loan.role)), wide_word(loan.until));
     }
     total
 }
@@ -228,6 +252,7 @@ fn batch_of(which: u64, number: u64, seed: u64) -> Batch
         first: 0,
         second: 0,
         third: 0,
+        fourth: 0,
         x: 0,
         y: 0,
     };
@@ -248,25 +273,56 @@ fn batch_of(which: u64, number: u64, seed: u64) -> Batch
     batch
 }
 
+// Of users one past the last too, so that 20 is met; of times some before the present one, so that 21 and 52 are.
 fn step_of(which: u64, index: u64, a: u64, b: u64, c: u64, d: u64) -> Step
     requires { ⌜ index ≤ 2000000 ⌝ }
 {
-    let kind = kind_of(which, part(a) % 64);
+    let kind = kind_of(which, part(a));
+    if kind >= 13 {
+        return loan_step(kind, index, part(b), part(c), part(d));
+    }
     Step {
         kind,
-        first: first_of(kind, index, part(b)),
+        first: first_of(which, kind, index, part(b)),
         second: second_of(kind, part(c)),
         third: part(d) % 32,
+        fourth: 0,
         x: coordinate(part(c)),
         y: coordinate(part(d)),
     }
 }
 
-fn kind_of(which: u64, weight: u64) -> u64 {
-    if which == 4 {
-        return heavy_kind(weight);
+// lend and recall: the users from 48 on, who are assigned none, borrow eight roles, each user a role from the same lender every time. So a
+// loan is often granted, and a recall often names one.
+fn loan_step(kind: u64, index: u64, b: u64, c: u64, d: u64) -> Step
+    requires { ⌜ index ≤ 2000000 ⌝ }
+{
+    Step {
+        kind,
+        first: (c % 17 + d % 8) % 8,
+        second: 48 + c % 17,
+        third: d % 8 * 4,
+        fourth: index * 1000 + b % 1000000,
+        x: coordinate(c),
+        y: coordinate(d),
     }
-    mixed_kind(weight)
+}
+
+fn kind_of(which: u64, drawn: u64) -> u64 {
+    match which {
+        4 => heavy_kind(drawn % 64),
+        5 => kind_with_loans(drawn % 80),
+        _ => mixed_kind(drawn % 64),
+    }
+}
+
+// The mixed kinds, and one step in five lends or recalls.
+fn kind_with_loans(weight: u64) -> u64 {
+    match weight {
+        0..=63 => mixed_kind(weight),
+        64..=71 => 13,
+        _ => 14,
+    }
 }
 
 fn mixed_kind(weight: u64) -> u64 {
@@ -300,15 +356,21 @@ fn heavy_kind(weight: u64) -> u64 {
     }
 }
 
-// Of users one past the last too, so that 20 is met; of times some before the present one, so that 21 is.
-fn first_of(kind: u64, index: u64, drawn: u64) -> u64
+fn first_of(which: u64, kind: u64, index: u64, drawn: u64) -> u64
     requires { ⌜ index ≤ 2000000 ⌝ }
 {
     match kind {
-        0..=1 => drawn % 65,
+        0..=1 => assigned_user(which, drawn),
         12 => index * 1000 + drawn % 40000,
         _ => drawn % 32,
     }
+}
+
+fn assigned_user(which: u64, drawn: u64) -> u64 {
+    if which == 5 {
+        return drawn % 48;
+    }
+    drawn % 65
 }
 
 fn second_of(kind: u64, drawn: u64) -> u64 {

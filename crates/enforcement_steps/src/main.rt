@@ -1,6 +1,6 @@
 // Each kind of step granted, and refused with each of its numbers, on fresh states and on handed-in ones (document 01, 'State and steps' and
-// 'Refused'). The file stdin has the cases and says how they are written. The file stdout has what each must give: it was worked out from
-// the document and not taken from a run.
+// 'Refused'; request 2026-01). The file stdin has the cases and says how they are written. The file stdout has what each must give: it was
+// worked out from the documents and not taken from a run.
 mod fields;
 mod numbers;
 mod slots;
@@ -17,8 +17,8 @@ struct Given {
     state: State,
 }
 
-// The lines besides steps and rules, numbered from 0: the state's are 0 to 8, the list's 9 to 14.
-const LINES: [u8; 292] = *b"\
+// The lines besides steps and rules, numbered from 0: the state's are 0 to 12, the list's 13 to 18.
+const LINES: [u8; 342] = *b"\
 fresh\n\
 state (now ?)\n\
 state (each assigned ?)\n\
@@ -27,7 +27,11 @@ state (open ? ?)\n\
 state (closed ? ?)\n\
 state (place ? _ _)\n\
 state (active ? ?)\n\
+state (loan ? ? ? ?)\n\
+state (loans ?)\n\
 time\n\
+loans\n\
+loan ?\n\
 slot ? (max-roles ?)\n\
 slot ? (needs ? ?)\n\
 slot ? (during ? (months ? ?))\n\
@@ -35,7 +39,7 @@ slot ? (during ? (dates ? ?))\n\
 slot ? (at ? (inside (box _ _ _ _)))\n\
 no rules\n";
 
-const LINE_COUNT: usize = 15;
+const LINE_COUNT: usize = 19;
 
 fn main() {
     let mut input = io::large_buffer();

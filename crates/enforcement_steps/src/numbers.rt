@@ -1,13 +1,14 @@
-// A step by its six numbers, of which each may be any that its field holds.
+// A step by its numbers, of which each may be any that its field holds.
 use steps::Step;
 
-// kind, then first, second, third, x and y
+// kind, then first, second, third, x, y and fourth; one that is left out is 0
 pub(crate) fn step_of(line: &[u8]) -> Step {
     Step {
         kind: number_after(1, line),
         first: number_after(2, line),
         second: number_after(3, line),
         third: number_after(4, line),
+        fourth: number_after(7, line),
         x: signed(number_after(5, line)),
         y: signed(number_after(6, line)),
     }

@@ -9,8 +9,8 @@ use rules::Slot;
 // The list with one line more; the forms are those of the table.
 pub(crate) fn with_line(list: RuleList, form: usize, values: &[u64; 6]) -> RuleList {
     match form {
-        9..=13 => with_rule(list, values[0] as usize, rule_of(form, values)),
-        14 => no_rules(),
+        13..=17 => with_rule(list, values[0] as usize, rule_of(form, values)),
+        18 => no_rules(),
         _ => list,
     }
 }
@@ -42,19 +42,19 @@ fn rule_of(form: usize, values: &[u64; 6]) -> Rule {
     let second = narrow(values[2]);
     let third = narrow(values[3]);
     match form {
-        9 => Rule::MaxRoles { limit: first },
-        10 => Rule::Dependency {
+        13 => Rule::MaxRoles { limit: first },
+        14 => Rule::Dependency {
             role: first,
             needed: second,
         },
-        11 => Rule::TimeContext {
+        15 => Rule::TimeContext {
             role: first,
             term: Term::Months {
                 first: second,
                 last: third,
             },
         },
-        12 => Rule::TimeContext {
+        16 => Rule::TimeContext {
             role: first,
             term: Term::Dates {
                 from: second,

@@ -15,9 +15,9 @@ use Rattle.texts.specs.declared.saved_runs.Text.{Text}
 use Rattle.texts.specs.declared.saved_runs.Text.the-variants as Text
 use Rattle.texts.specs.declared.saved_runs.Report.{Report}
 
--- 1.0.0
+-- 1.1.0
 abbrev pub version : ℕ
-version = 10000
+version = 10100
 
 -- ---- a report as numbers
 

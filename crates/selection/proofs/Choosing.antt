@@ -12,7 +12,7 @@ use Rattle.rules.specs.declared.families.Rule.{Rule}
 use Rattle.rules.specs.declared.families.Rule.the-variants.{Prerequisite, MaxUsers, MaxRoles, MaxPermissions, MaxActive, StaticSeparation, DynamicSeparation, Dependency, TimeContext, LocationContext, HistorySeparation, BindingOfDuty}
 use Rattle.selection.specs.Selection.{family, hasFirst, hasSecond, selects}
 use Rattle.steps.specs.declared.actions.Action.{Action}
-use Rattle.steps.specs.declared.actions.Action.the-variants.{Assign, Withdraw, Grant, Activate, Deactivate, Access, Close, Move, Lost, Clock}
+use Rattle.steps.specs.declared.actions.Action.the-variants.{Assign, Withdraw, Grant, Activate, Deactivate, Access, Close, Move, Lost, Clock, Lend, Recall}
 use Rattle.selection.specs.Choices.{choiceOf, chosenAt, chosen}
 use Rattle.selection.specs.declared.selection.Choice.{Choice}
 use Rattle.places.specs.declared.Point.{Point}
@@ -114,6 +114,15 @@ module _ (k : Rule) where
   pub clock-chosen : (t : ℕ) → chosen (choiceOf 768 0 0 0) k ≡ selects (Clock t) k
   unfolding chosen selects all member
   clock-chosen t = by-family (chosenAt (choiceOf 768 0 0 0)) (λ f a b. eqb f 9 || eqb f 8) refl k (hasFirst 0 k) (hasSecond 0 k)
+
+  pub lend-chosen : (u v r t : ℕ) → chosen (choiceOf 8 68 64 r) k ≡ selects (Lend u v r t) k
+  unfolding chosen selects all member
+  lend-chosen u v r t =
+      by-family (chosenAt (choiceOf 8 68 64 r)) (λ f a b. (eqb f 2 && a) || (eqb f 3 || (eqb f 6 && (a || b)))) refl k (hasFirst r k) (hasSecond r k)
+
+  pub recall-chosen : (u v r : ℕ) → chosen (choiceOf 256 0 0 0) k ≡ selects (Recall u v r) k
+  unfolding chosen selects all member
+  recall-chosen u v r = by-family (chosenAt (choiceOf 256 0 0 0)) (λ f a b. eqb f 8) refl k (hasFirst 0 k) (hasSecond 0 k)
 
 -- a row by the step that is read
 pub chosen-told : (action told : Action) → action ≡ told → (choice made : Choice) → choice ≡ made → ((k : Rule) → chosen made k ≡ selects told k) → (k : Rule) → chosen choice k ≡ selects action k

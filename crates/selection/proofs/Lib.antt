@@ -1,4 +1,5 @@
 pub mod Choosing
+pub mod HeldUnread
 pub mod Judgement
 pub mod Parts
 pub mod Settling

@@ -18,8 +18,8 @@ use Rattle.sets.proofs.Width.{equal-sets}
 use Rattle.sets.proofs.Counting.{count-mono, count-whole}
 use Rattle.sets.proofs.Built.{member-set-of}
 use Rattle.rules.specs.Families.{wordAt, hasRole}
-use Rattle.steps.specs.Pairs.{pairCount, Part}
-use Rattle.selection.specs.Ending.{sifted, sameLists, settled}
+use Rattle.steps.specs.Pairs.{pairCount, sifted, Part}
+use Rattle.selection.specs.Ending.{sameLists, settled}
 
 -- ---- parts
 

@@ -1,7 +1,7 @@
 -- Rounds on words: each round gives what the round on pairs gives, and rounds until nothing changes need no count of rounds.
 -- Assumes nothing.
 use mathlib.Core.Path.{_≡_, refl, sym, ap, _∙_}
-use mathlib.Core.Bool.{Bool, true, false, not, cond, _&&_}
+use mathlib.Core.Bool.{Bool, true, false, not, cond, _&&_, and-false}
 use mathlib.Core.List.{List, [], _∷_}
 use Prim.Native.Nat.{ℕ, zero, suc, _+_, _^_, _<_}
 use native.Mathlib.Nat.{zero-add}
@@ -10,15 +10,15 @@ use native.Mathlib.Numerals.{add-one}
 use lib.Dec.{eqb, ltb}
 use lib.ListN.{length, take, drop, set}
 use lib.Seq.{take-all, take-suc, take-suc-set, drop-length, drop-cons, ext-getD}
-use borrow.Author.Tests.{eq-eqb, ne-eqb, ltb-true}
+use borrow.Author.Tests.{eq-eqb, ne-eqb, ltb-true, lt-ltb}
 use Rattle.sets.specs.Sets.{member, intersection, difference, subset, unionOf}
 use Rattle.sets.proofs.Booleans.{left-true, right-true}
 use Rattle.sets.proofs.Members.{member-intersection, member-difference}
 use Rattle.sets.proofs.Width.{equal-sets, member-below, within-lt}
 use Rattle.sets.proofs.Built.{member-set-of}
 use Rattle.rules.specs.Families.{wordAt, hasRole}
-use Rattle.steps.specs.Pairs.{pairCount, Part}
-use Rattle.selection.specs.Ending.{sifted, sameLists, settled, stayingRoles, lets, planRound}
+use Rattle.steps.specs.Pairs.{pairCount, sifted, Part}
+use Rattle.selection.specs.Ending.{sameLists, settled, stayingRoles, lets, planRound}
 use Rattle.selection.proofs.Parts.{HasRoles, part-has-roles, has-sifted, length-sifted, round-fewer}
 
 -- ---- loops over lists of words
@@ -49,6 +49,19 @@ module _ (l m : List ℕ) (i : ℕ) where
     where
       drop-all : (k : List ℕ) → length k ≡ i → drop i k ≡ []
       drop-all k e = rw (← e) (drop-length k)
+
+-- ---- held roles
+
+-- of one session, the active roles that its user holds
+pub held-word : (held active : List ℕ) (user : ℕ → ℕ) (i : ℕ) → wordAt active i < 2 ^ 32
+    → intersection (wordAt active i) (wordAt held (user i)) ≡ wordAt (sifted 0 (λ i r. hasRole held (user i) r) active) i
+held-word held active user i small =
+    equal-sets _ _
+    (λ r. rw (member-intersection, has-sifted, zero-add i) (below r (hasRole active i r) (hasRole held (user i) r) (member-below 32 (wordAt active i) r small)))
+  where
+    below : (r : ℕ) (a h : Bool) → (a ≡ true → r < 32) → (a && h) ≡ (ltb r 32 && (a && h))
+    below r true h small = rw (lt-ltb r 32 (small refl))
+    below r false h small = sym (and-false (ltb r 32))
 
 -- ---- one round
 

@@ -13,8 +13,8 @@ use Rattle.rules.specs.declared.families.Rule.{Rule}
 use Rattle.rules.specs.declared.families.Rule.the-variants.{Prerequisite, MaxUsers, MaxRoles, MaxPermissions, MaxActive, StaticSeparation, DynamicSeparation, Dependency, TimeContext, LocationContext, HistorySeparation, BindingOfDuty}
 use Rattle.selection.specs.Selection.{family, selects, hasFirst, hasSecond, names}
 use Rattle.steps.specs.declared.actions.Action.{Action}
-use Rattle.steps.specs.declared.actions.Action.the-variants.{Malformed, Assign, Withdraw, Grant, Take, Open, Activate, Deactivate, Access, Finish, Close, Move, Lost, Clock}
-use Rattle.selection.specs.Table.{Selected, assign-before, assign-max-users, assign-max-roles, assign-apart-first, assign-apart-second, withdraw-before, grant-max-permissions, activate-max-active, activate-apart-first, activate-apart-second, activate-needs, activate-during, activate-at, deactivate-needs, access-two-hands-first, access-two-hands-second, access-same-hand-first, access-same-hand-second, close-needs, move-at, move-needs, lost-at, lost-needs, clock-during, clock-needs}
+use Rattle.steps.specs.declared.actions.Action.the-variants.{Malformed, Assign, Withdraw, Grant, Take, Open, Activate, Deactivate, Access, Finish, Close, Move, Lost, Clock, Lend, Recall}
+use Rattle.selection.specs.Table.{Selected, assign-before, assign-max-users, assign-max-roles, assign-apart-first, assign-apart-second, withdraw-before, grant-max-permissions, activate-max-active, activate-apart-first, activate-apart-second, activate-needs, activate-during, activate-at, deactivate-needs, access-two-hands-first, access-two-hands-second, access-same-hand-first, access-same-hand-second, close-needs, move-at, move-needs, lost-at, lost-needs, clock-during, clock-needs, lend-max-users, lend-max-roles, lend-apart-first, lend-apart-second, recall-needs}
 
 -- ---- a rule by its family's number
 
@@ -88,6 +88,11 @@ of-selected action rule (lost-at i r side) = refl
 of-selected action rule (lost-needs i r q) = refl
 of-selected action rule (clock-during t r term) = refl
 of-selected action rule (clock-needs t r q) = refl
+of-selected action rule (lend-max-users u v r t n) = rw (eq-eqb r r refl)
+of-selected action rule (lend-max-roles u v r t n) = refl
+of-selected action rule (lend-apart-first u v r t q) = rw (eq-eqb r r refl)
+of-selected action rule (lend-apart-second u v r t q) = rw (eq-eqb r r refl, or-true)
+of-selected action rule (recall-needs u v r p q) = refl
 
 -- a rule of the cell's family that passes the cell's test is named by the cell
 module _ (u r : ℕ) where
@@ -138,6 +143,17 @@ module _ (i p o : ℕ) where
   in-access-same-hand : {rule : Rule} → Numbered 12 rule → names p rule ≡ true → Selected (Access i p o) rule
   in-access-same-hand (same-hand a q) =
       either _ _ (λ h. rw (eqb-true a p h) (access-same-hand-first i p o q)) (λ h. rw (eqb-true q p h) (access-same-hand-second i p o a))
+
+module _ (u v r t : ℕ) where
+  in-lend-max-users : {rule : Rule} → Numbered 2 rule → hasFirst r rule ≡ true → Selected (Lend u v r t) rule
+  in-lend-max-users (max-users a n) h = rw (eqb-true a r h) (lend-max-users u v r t n)
+
+  in-lend-max-roles : {rule : Rule} → Numbered 3 rule → Selected (Lend u v r t) rule
+  in-lend-max-roles (max-roles n) = lend-max-roles u v r t n
+
+  in-lend-apart : {rule : Rule} → Numbered 6 rule → names r rule ≡ true → Selected (Lend u v r t) rule
+  in-lend-apart (apart a q) =
+      either _ _ (λ h. rw (eqb-true a r h) (lend-apart-first u v r t q)) (λ h. rw (eqb-true q r h) (lend-apart-second u v r t a))
 
 -- a family selected whole
 module _ (action : Action) where
@@ -193,6 +209,11 @@ to-selected (Clock t) rule h =
     either _ _
     (all-of-family 9 rule (in-all-during (Clock t) (clock-during t)))
     (all-of-family 8 rule (in-all-needs (Clock t) (clock-needs t))) h
+to-selected (Lend u v r t) rule h =
+    either _ _
+    (some-of-family 2 rule (hasFirst r rule) (in-lend-max-users u v r t))
+    (either _ _ (all-of-family 3 rule (in-lend-max-roles u v r t)) (some-of-family 6 rule (names r rule) (in-lend-apart u v r t))) h
+to-selected (Recall u v r) rule h = all-of-family 8 rule (in-all-needs (Recall u v r) (recall-needs u v r)) h
 
 -- a step selects a rule exactly where the table's cell names it
 pub table : (action : Action) (rule : Rule) → (selects action rule ≡ true) ↔ Selected action rule

@@ -6,14 +6,9 @@ use mathlib.Core.List.{List, [], _∷_}
 use lib.Dec.{eqb}
 use Rattle.sets.specs.Sets.{member, subset, setOf, unionOf}
 use Rattle.rules.specs.Families.{wordAt, hasRole}
-use Rattle.steps.specs.Pairs.{pairCount}
+use Rattle.steps.specs.Pairs.{pairCount, sifted}
 
 -- ---- rounds
-
--- the pairs of a list that pass the test, its sessions counted from i on
-unfoldable pub sifted : ℕ → (ℕ → ℕ → Bool) → List ℕ → List ℕ
-sifted i test [] = []
-sifted i test (roles ∷ rest) = setOf 32 (λ r. member roles r && test i r) ∷ sifted (suc i) test rest
 
 unfoldable pub sameLists : List ℕ → List ℕ → Bool
 sameLists [] [] = true

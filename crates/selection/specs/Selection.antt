@@ -9,7 +9,7 @@ use Rattle.sets.specs.Sets.{oneIf}
 use Rattle.rules.specs.declared.families.Rule.{Rule}
 use Rattle.rules.specs.declared.families.Rule.the-variants.{Prerequisite, MaxUsers, MaxRoles, MaxPermissions, MaxActive, StaticSeparation, DynamicSeparation, Dependency, TimeContext, LocationContext, HistorySeparation, BindingOfDuty}
 use Rattle.steps.specs.declared.actions.Action.{Action}
-use Rattle.steps.specs.declared.actions.Action.the-variants.{Malformed, Assign, Withdraw, Grant, Take, Open, Activate, Deactivate, Access, Finish, Close, Move, Lost, Clock}
+use Rattle.steps.specs.declared.actions.Action.the-variants.{Malformed, Assign, Withdraw, Grant, Take, Open, Activate, Deactivate, Access, Finish, Close, Move, Lost, Clock, Lend, Recall}
 
 -- ---- a rule's family, and the roles or permissions that it names
 
@@ -132,6 +132,10 @@ selects (Move i point) k = isAt k || isNeeds k
 selects (Lost i) k = isAt k || isNeeds k
 -- "all during, all needs"
 selects (Clock t) k = isDuring k || isNeeds k
+-- 2026-01: "Lend selects max-users r, max-roles and apart naming r"
+selects (Lend u v r t) k = (isMaxUsers k && hasFirst r k) || (isMaxRoles k || (isApart k && names r k))
+-- 2026-01: "recall selects all needs"
+selects (Recall u v r) k = isNeeds k
 
 -- "the number of rules selected"
 unfoldable pub selectedNumber : (Rule → Bool) → List Rule → ℕ

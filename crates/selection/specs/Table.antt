@@ -8,7 +8,7 @@ use Rattle.places.specs.declared.Side.{Side}
 use Rattle.rules.specs.declared.families.Rule.{Rule}
 use Rattle.rules.specs.declared.families.Rule.the-variants.{Prerequisite, MaxUsers, MaxRoles, MaxPermissions, MaxActive, StaticSeparation, DynamicSeparation, Dependency, TimeContext, LocationContext, HistorySeparation, BindingOfDuty}
 use Rattle.steps.specs.declared.actions.Action.{Action}
-use Rattle.steps.specs.declared.actions.Action.the-variants.{Assign, Withdraw, Grant, Activate, Deactivate, Access, Close, Move, Lost, Clock}
+use Rattle.steps.specs.declared.actions.Action.the-variants.{Assign, Withdraw, Grant, Activate, Deactivate, Access, Close, Move, Lost, Clock, Lend, Recall}
 
 -- "Rules selected"
 
@@ -47,3 +47,10 @@ pub data Selected : Action → Rule → Type 0 where
   -- clock t: "all during, all needs"
   clock-during : (t r : ℕ) (term : Term) → Selected (Clock t) (TimeContext r term)
   clock-needs : (t r q : ℕ) → Selected (Clock t) (Dependency r q)
+  -- lend u v r t, 2026-01: "Lend selects max-users r, max-roles and apart naming r"
+  lend-max-users : (u v r t n : ℕ) → Selected (Lend u v r t) (MaxUsers r n)
+  lend-max-roles : (u v r t n : ℕ) → Selected (Lend u v r t) (MaxRoles n)
+  lend-apart-first : (u v r t q : ℕ) → Selected (Lend u v r t) (StaticSeparation r q)
+  lend-apart-second : (u v r t q : ℕ) → Selected (Lend u v r t) (StaticSeparation q r)
+  -- recall u v r, 2026-01: "recall selects all needs"
+  recall-needs : (u v r p q : ℕ) → Selected (Recall u v r) (Dependency p q)

@@ -3,9 +3,9 @@ ghost use mathlib.Core.Path.{_≡_};
 ghost use mathlib.Core.Logic.{_⊎_};
 ghost use Prim.Native.Nat.{_+_, _<_, _≤_};
 ghost use Rattle.rules.specs.Acceptance.{rulesOf};
-ghost use Rattle.rules.specs.Families.{holds};
+ghost use Rattle.rules.specs.Families.{view, holds};
 ghost use Rattle.selection.specs.Selection.{selects};
-ghost use Rattle.selection.specs.Judging.{viewBy, judgedOf, visited};
+ghost use Rattle.selection.specs.Judging.{judgedOf, visited};
 use crate::selection::choice_of;
 use crate::selection::is_chosen;
 use rules::Rule;
@@ -25,13 +25,14 @@ pub fn judge<'a>(
     list: RuleList,
     action: Action,
     assigned: &'a [u32; 64],
+    held: &'a [u32; 64],
     granted: &'a [u32; 32],
     sessions: [Session; 32],
     active: &'a [u32; 32],
     history: &'a [u64; 1024],
     time: u64,
 ) -> Judged
-    ensures { λ r. ⌜ r ≡ judgedOf (selects action) (viewBy (now (assigned .entry)) (now (granted .entry)) sessions (now (active .entry)) (now (history .entry)) time) (rulesOf list) ⌝ }
+    ensures { λ r. ⌜ r ≡ judgedOf (selects action) (view (now (assigned .entry)) (now (held .entry)) (now (granted .entry)) sessions (now (active .entry)) (now (history .entry)) time) (rulesOf list) ⌝ }
 {
     let length = slots_in(list.length);
     let choice = choice_of(action);
@@ -49,6 +50,7 @@ pub fn judge<'a>(
                 rule,
                 i + 1,
                 assigned,
+                held,
                 granted,
                 sessions,
                 active,
@@ -77,6 +79,7 @@ fn visit<'a>(
     rule: Rule,
     number: usize,
     assigned: &'a [u32; 64],
+    held: &'a [u32; 64],
     granted: &'a [u32; 32],
     sessions: [Session; 32],
     active: &'a [u32; 32],
@@ -84,14 +87,14 @@ fn visit<'a>(
     time: u64,
 ) -> Judged
     requires { ⌜ judged .selected < 128 ⌝ }
-    ensures { λ r. ⌜ r ≡ visited (holds rule (viewBy (now (assigned .entry)) (now (granted .entry)) sessions (now (active .entry)) (now (history .entry)) time)) judged number ⌝ }
+    ensures { λ r. ⌜ r ≡ visited (holds rule (view (now (assigned .entry)) (now (held .entry)) (now (granted .entry)) sessions (now (active .entry)) (now (history .entry)) time)) judged number ⌝ }
 {
     let selected = judged.selected + 1;
     let broken = judged.broken;
     let Lowest::Unbroken = broken else {
         return Judged { broken, selected };
     };
-    match rule.test(assigned, assigned, granted, sessions, active, history, time) {
+    match rule.test(assigned, held, granted, sessions, active, history, time) {
         Tested::Kept => Judged {
             broken: Lowest::Unbroken,
             selected,

@@ -1,10 +1,37 @@
-// What a plan leaves of the active pairs: rounds on sets of roles. A plan has the roles that are dead, of each session those that are
-// out, and of each role those that it needs.
+// What is left of the active pairs, on sets of roles: those whose role the session's user holds, and what a plan leaves in rounds. A plan
+// has the roles that are dead, of each session those that are out, and of each role those that it needs.
 ghost use mathlib.Core.Path.{_≡_};
 ghost use lib.ListN.{length};
+ghost use Rattle.rules.specs.Families.{wordAt, hasRole, sessionAt};
+ghost use Rattle.steps.specs.Pairs.{sifted};
 ghost use Rattle.selection.specs.Ending.{sameLists, stayingRoles, planRound, planSettled};
+use rules::Session;
 use rules::tests::active_somewhere;
 use sets::word32;
+use steps::Step;
+
+// Of each session the active roles that its user holds.
+pub fn held_active(held: [u32; 64], sessions: [Session; 32], active: [u32; 32]) -> [u32; 32]
+    ensures { λ kept. ⌜ kept ≡ sifted 0 (λ i r. hasRole held (sessionAt sessions i .user) r) active ⌝ }
+{
+    let mut kept = [0u32; 32];
+    for i in 0..32 {
+        let session = sessions[i];
+        kept[i] = word32::intersection(active[i], roles_of(&held, session.user));
+    }
+    kept
+}
+
+// The roles that a user holds; none for a user past the last.
+fn roles_of(held: &[u32; 64], user: u32) -> u32
+    requires { ⌜ length (now held) ≡ 64 ⌝ }
+    ensures { λ r. ⌜ r ≡ wordAt (now (held .entry)) user ⌝ }
+{
+    if Step::USERS <= user as usize {
+        return 0;
+    }
+    held[user as usize]
+}
 
 // Rounds until nothing changes.
 pub fn plan_settled(active: [u32; 32], out: [u32; 32], needs: [u32; 32], dead: u32) -> [u32; 32]

@@ -100,6 +100,22 @@ pub fn choice_of(action: Action) -> Choice
         } => by_families(LOCATION_CONTEXT | DEPENDENCY, 0, 0, 0),
         Action::Lost { session: _ } => by_families(LOCATION_CONTEXT | DEPENDENCY, 0, 0, 0),
         Action::Clock { time: _ } => by_families(TIME_CONTEXT | DEPENDENCY, 0, 0, 0),
+        Action::Lend {
+            lender: _,
+            borrower: _,
+            role,
+            until: _,
+        } => by_families(
+            MAX_ROLES,
+            MAX_USERS | STATIC_SEPARATION,
+            STATIC_SEPARATION,
+            role,
+        ),
+        Action::Recall {
+            lender: _,
+            borrower: _,
+            role: _,
+        } => by_families(DEPENDENCY, 0, 0, 0),
     }
 }
 

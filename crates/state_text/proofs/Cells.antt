@@ -3,32 +3,37 @@
 use mathlib.Core.Path.{_≡_, refl, sym, ap, _∙_}
 use mathlib.Core.Bool.{Bool, true}
 use mathlib.Core.Logic.{_≢_}
-use mathlib.Core.List.{List, [], _∷_, append-assoc}
-use Prim.Native.Nat.{ℕ, zero, suc, _+_, _*_, _/_, _%_, _<_}
+use mathlib.Core.List.{List, [], _∷_, _++_, append-assoc}
+use Prim.Native.Nat.{ℕ, zero, suc, _+_, _*_, _/_, _%_, _≤_, _<_}
+use native.Mathlib.Nat.{min-le-left}
 use native.Mathlib.Omega.{arith}
-use lib.ListN.{set, length}
+use lib.Dec.{leb}
+use lib.ListN.{set, length, length-take, length-append}
 use lib.Seq.{getD-set-same, getD-set-other}
-use borrow.Author.Tests.{lt-ltb}
+use borrow.Author.Tests.{lt-ltb, leb-false, not-true}
 use Rattle.sets.specs.Sets.{with}
 use Rattle.sets.proofs.Members.{member-with-same, member-with-other}
 use Rattle.places.specs.declared.Position.{Position}
 use Rattle.places.specs.declared.Position.the-variants.{Known}
 use Rattle.rules.specs.Families.{wordAt, hasRole, closedSession, sessionAt, permissionsOf, usersWho}
 use Rattle.rules.specs.declared.sessions.Session.{Session}
-use Rattle.enforcement.specs.States.{assignedRole, carries, isOpen, userOf, positionOf, activeRole, did}
+use Rattle.loans.specs.Loans.{key, loanOf, acceptedFrom}
+use Rattle.loans.proofs.Storing.{running-stored}
+use Rattle.enforcement.specs.States.{assignedRole, carries, loansOf, isOpen, userOf, positionOf, activeRole, did}
 use Rattle.enforcement.specs.Steps.{withSessions, put, session}
 use Rattle.enforcement.specs.Reached.{Typed}
 use Rattle.enforcement.specs.declared.states.State.{State}
-use Rattle.state_text.specs.Entries.{rank, withLine}
+use Rattle.state_text.specs.Entries.{formOf, rank, withLine, hasRoom}
 use Rattle.state_text.specs.Saving.{over, only, placeLines, sessionLines, linesOf}
 use Rattle.state_text.specs.Causes.{Ranged}
 use Rattle.state_text.specs.declared.entries.Entry.{Entry}
-use Rattle.state_text.specs.declared.entries.Entry.the-variants.{Now, Assigned, Granted, Open, Place, Active, Did}
+use Rattle.state_text.specs.declared.entries.Entry.the-variants.{Now, Assigned, Granted, Loan as LoanLine, Open, Place, Active, Did}
 use Rattle.state_text.proofs.Rows.{over-zero, over-suc, over-same, over-add, over-mul, over-join, over-rows, Except, join, join-left, join-right, except-left, except-right, rows, rows-at, rows-except}
+use Rattle.state_text.proofs.LoanCells.{loanCell, keysBelow, all-cells, loan-except, loan-there, no-lines, keys-till}
 
 -- how many lines there can be
 abbrev pub allLines : ℕ
-allLines = 69697
+allLines = 200769
 
 -- ---- the cells
 
@@ -64,7 +69,12 @@ historyCell s k u = only (hasRole (s .history) k u) (Did (k / 32) (k % 32) u)
 unfoldable pub at : State → ℕ → List Entry
 at s =
     join 1 (nowCell (s .time))
-    (join 2048 (rows 32 (assignedCell s)) (join 1024 (rows 32 (grantedCell s)) (join 1088 (rows 34 (sessionCells s)) (rows 64 (historyCell s)))))
+    (join 2048 (rows 32 (assignedCell s))
+    (join 1024 (rows 32 (grantedCell s)) (join 131072 (loanCell (loansOf s)) (join 1088 (rows 34 (sessionCells s)) (rows 64 (historyCell s))))))
+
+-- no line stands at k or past it
+abbrev pub Ended : ℕ → State → Type 0
+Ended k s = (j : ℕ) → k ≤ j → at s j ≡ []
 
 -- ---- what stands where
 
@@ -98,17 +108,23 @@ module _ (s : State) where
       join-right 1 _ _ (2048 + (r * 32 + p)) ∙ join-right 2048 _ _ (r * 32 + p)
       ∙ join-left 1024 (rows 32 (grantedCell s)) _ (r * 32 + p) (omega arith) ∙ rows-at 32 (grantedCell s) r p hp
 
-  pub at-session : (i m : ℕ) → i < 32 → m < 34 → at s (1 + (2048 + (1024 + (i * 34 + m)))) ≡ sessionCells s i m
+  pub at-loan : (k : ℕ) → k < 131072 → at s (1 + (2048 + (1024 + k))) ≡ loanCell (loansOf s) k
+  unfolding at
+  at-loan k h =
+      join-right 1 _ _ (2048 + (1024 + k)) ∙ join-right 2048 _ _ (1024 + k) ∙ join-right 1024 _ _ k ∙ join-left 131072 (loanCell (loansOf s)) _ k h
+
+  pub at-session : (i m : ℕ) → i < 32 → m < 34 → at s (1 + (2048 + (1024 + (131072 + (i * 34 + m))))) ≡ sessionCells s i m
   unfolding at
   at-session i m hi hm =
-      join-right 1 _ _ (2048 + (1024 + (i * 34 + m))) ∙ join-right 2048 _ _ (1024 + (i * 34 + m)) ∙ join-right 1024 _ _ (i * 34 + m)
+      join-right 1 _ _ (2048 + (1024 + (131072 + (i * 34 + m)))) ∙ join-right 2048 _ _ (1024 + (131072 + (i * 34 + m)))
+      ∙ join-right 1024 _ _ (131072 + (i * 34 + m)) ∙ join-right 131072 _ _ (i * 34 + m)
       ∙ join-left 1088 (rows 34 (sessionCells s)) _ (i * 34 + m) (omega arith) ∙ rows-at 34 (sessionCells s) i m hm
 
-  pub at-did : (o p u : ℕ) → o < 32 → p < 32 → u < 64 → at s (1 + (2048 + (1024 + (1088 + ((o * 32 + p) * 64 + u))))) ≡ only (hasRole (s .history) (o * 32 + p) u) (Did o p u)
+  pub at-did : (o p u : ℕ) → o < 32 → p < 32 → u < 64 → at s (1 + (2048 + (1024 + (131072 + (1088 + ((o * 32 + p) * 64 + u)))))) ≡ only (hasRole (s .history) (o * 32 + p) u) (Did o p u)
   unfolding at
   at-did o p u ho hp hu =
-      join-right 1 _ _ (2048 + (1024 + (1088 + ((o * 32 + p) * 64 + u)))) ∙ join-right 2048 _ _ (1024 + (1088 + ((o * 32 + p) * 64 + u)))
-      ∙ join-right 1024 _ _ (1088 + ((o * 32 + p) * 64 + u)) ∙ join-right 1088 _ _ ((o * 32 + p) * 64 + u)
+      join-right 1 _ _ (2048 + (1024 + (131072 + (1088 + ((o * 32 + p) * 64 + u))))) ∙ join-right 2048 _ _ (1024 + (131072 + (1088 + ((o * 32 + p) * 64 + u))))
+      ∙ join-right 1024 _ _ (131072 + (1088 + ((o * 32 + p) * 64 + u))) ∙ join-right 131072 _ _ (1088 + ((o * 32 + p) * 64 + u)) ∙ join-right 1088 _ _ ((o * 32 + p) * 64 + u)
       ∙ rows-at 64 (historyCell s) (o * 32 + p) u hu ∙ rw (object-of o p hp, permission-of o p hp)
 
 -- ---- all cells in a row are the lines of a state
@@ -142,22 +158,43 @@ did-lines s =
     one : (o p u : ℕ) → p < 32 → historyCell s (o * 32 + p) u ≡ only (did s o p u) (Did o p u)
     one o p u hp = rw (object-of o p hp, permission-of o p hp, did-word s o p u hp)
 
-pub lines-at : (s : State) → over allLines (at s) ≡ linesOf s
+-- where the loans are in order
+pub lines-at : (s : State) → acceptedFrom 0 (loansOf s) ≡ true → over allLines (at s) ≡ linesOf s
 unfolding at linesOf
-lines-at s =
-    over-join 1 69696 (nowCell (s .time)) _
+lines-at s ordered =
+    over-join 1 200768 (nowCell (s .time)) _
     ∙ rw (
       over-suc 0 (nowCell (s .time)),
       over-zero (nowCell (s .time)),
-      over-join 2048 67648 (rows 32 (assignedCell s)) (join 1024 (rows 32 (grantedCell s)) (join 1088 (rows 34 (sessionCells s)) (rows 64 (historyCell s)))),
-      over-join 1024 66624 (rows 32 (grantedCell s)) (join 1088 (rows 34 (sessionCells s)) (rows 64 (historyCell s))),
+      over-join 2048 198720 (rows 32 (assignedCell s)) (join 1024 (rows 32 (grantedCell s)) (join 131072 (loanCell (loansOf s)) (join 1088 (rows 34 (sessionCells s)) (rows 64 (historyCell s))))),
+      over-join 1024 197696 (rows 32 (grantedCell s)) (join 131072 (loanCell (loansOf s)) (join 1088 (rows 34 (sessionCells s)) (rows 64 (historyCell s)))),
+      over-join 131072 66624 (loanCell (loansOf s)) (join 1088 (rows 34 (sessionCells s)) (rows 64 (historyCell s))),
       over-join 1088 65536 (rows 34 (sessionCells s)) (rows 64 (historyCell s)),
       over-rows 32 64 (assignedCell s),
       granted-lines s,
+      all-cells (loansOf s) ordered,
       over-rows 34 32 (sessionCells s),
       over-same 32 (λ i. over 34 (sessionCells s i)) (sessionLines s) (λ i l. session-lines s i),
       did-lines s,
     )
+
+-- where no line stands at the place of key k or past it every loan's key is below k
+pub loans-till : (s : State) → acceptedFrom 0 (loansOf s) ≡ true → (k : ℕ) → k ≤ 131072 → Ended (1 + (2048 + (1024 + k))) s → keysBelow k (loansOf s) ≡ loansOf s
+loans-till s ordered k h ended = keys-till (loansOf s) ordered k h (λ j a b. sym (at-loan s j b) ∙ ended (1 + (2048 + (1024 + j))) (omega arith))
+
+-- ---- loans with room for one more
+
+pub room-left : (s : State) (u v r t : ℕ) → hasRoom s (LoanLine u v r t) ≡ true → length (loansOf s) < 32
+unfolding formOf
+room-left s u v r t room =
+    let counted : length (loansOf s) ≤ s .loans .count =
+    rw (length-take (s .loans .count) (s .loans .entries)) (min-le-left (s .loans .count) (length (s .loans .entries))) in
+    omega (arith, counted, leb-false 32 (s .loans .count) (not-true (leb 32 (s .loans .count)) room))
+
+pub loans-more : (s : State) (u v r t : ℕ) → hasRoom s (LoanLine u v r t) ≡ true → loansOf (withLine s (LoanLine u v r t)) ≡ loansOf s ++ (loanOf u v r t ∷ [])
+unfolding withLine
+loans-more s u v r t room =
+    running-stored (loansOf s ++ (loanOf u v r t ∷ [])) (rw (length-append (loansOf s) (loanOf u v r t ∷ [])) (omega (arith, room-left s u v r t room)))
 
 -- ---- a line that is put stands at its rank, and nothing else changes
 
@@ -185,11 +222,11 @@ module _ (s : State) (typed : Typed s) where
 
   -- another session in place i, that differs in part m alone
   session-except : (i m : ℕ) (v : Session) → i < 32 → Except m (sessionCells s i) (sessionCells (withSessions s (set (s .sessions) i v)) i)
-      → Except (1 + (2048 + (1024 + (i * 34 + m)))) (at s) (at (withSessions s (set (s .sessions) i v)))
+      → Except (1 + (2048 + (1024 + (131072 + (i * 34 + m))))) (at s) (at (withSessions s (set (s .sessions) i v)))
   unfolding at
   session-except i m v h same =
-      except-right 1 _ (except-right 2048 _ (except-right 1024 _ (except-left 1088 _
-      (rows-except 34 (sessionCells s) (sessionCells (withSessions s (set (s .sessions) i v))) i m (other i v) same))))
+      except-right 1 _ (except-right 2048 _ (except-right 1024 _ (except-right 131072 _ (except-left 1088 _
+      (rows-except 34 (sessionCells s) (sessionCells (withSessions s (set (s .sessions) i v))) i m (other i v) same)))))
     where
       other : (i : ℕ) (v : Session) (j k : ℕ) → j ≢ i → sessionCells s j k ≡ sessionCells (withSessions s (set (s .sessions) i v)) j k
       other i v j zero n = ap (openLine j) (sym (session-other i j v n))
@@ -223,44 +260,54 @@ module _ (s : State) (typed : Typed s) where
       same (suc (suc k)) n =
           rw (getD-set-same (s .active) i (with 32 (wordAt (s .active) i) r) 0 (omega (arith, typed .actives)), member-with-other 32 (wordAt (s .active) i) r k (λ e. n (omega arith)))
 
-  pub line-other : (e : Entry) → Ranged e → Except (rank e) (at s) (at (withLine s e))
+  -- one loan more
+  loan-other : (u v r t : ℕ) → hasRoom s (LoanLine u v r t) ≡ true → Except ((u * 64 + v) * 32 + r) (loanCell (loansOf s)) (loanCell (loansOf (withLine s (LoanLine u v r t))))
+  unfolding key
+  loan-other u v r t room = rw (loans-more s u v r t room) (loan-except (loansOf s) (loanOf u v r t))
+
+  pub line-other : (e : Entry) → Ranged e → hasRoom s e ≡ true → Except (rank e) (at s) (at (withLine s e))
   unfolding at withLine rank
-  line-other (Now t) h = except-left 1 _ (now-except (s .time) t)
-  line-other (Assigned u r) h =
+  line-other (Now t) h room = except-left 1 _ (now-except (s .time) t)
+  line-other (Assigned u r) h room =
       let l = h .0 in
       except-right 1 _ (except-left 2048 _ (words-except 32 32 Assigned (s .assigned) u r (omega (arith, typed .users))))
-  line-other (Granted r p) h =
+  line-other (Granted r p) h room =
       let l = h .0 in
       except-right 1 _ (except-right 2048 _ (except-left 1024 _ (words-except 32 32 Granted (s .granted) r p (omega (arith, typed .roles)))))
-  line-other (Open i u) h = session-except i 0 (session true u (positionOf s i)) (h .0) (open-except i u (h .0))
-  line-other (Place i x y) h =
+  line-other (LoanLine u v r t) h room = except-right 1 _ (except-right 2048 _ (except-right 1024 _ (except-left 131072 _ (loan-other u v r t room))))
+  line-other (Open i u) h room = session-except i 0 (session true u (positionOf s i)) (h .0) (open-except i u (h .0))
+  line-other (Place i x y) h room =
       session-except i 1 (session (isOpen s i) (userOf s i) (Known (record { x = x; y = y }))) (h .0) (place-except i (Known (record { x = x; y = y })) (h .0))
-  line-other (Active i r) h = except-right 1 _ (except-right 2048 _ (except-right 1024 _ (except-left 1088 _ (active-except i r (h .0)))))
-  line-other (Did o p u) h =
+  line-other (Active i r) h room = except-right 1 _ (except-right 2048 _ (except-right 1024 _ (except-right 131072 _ (except-left 1088 _ (active-except i r (h .0))))))
+  line-other (Did o p u) h room =
       let l = h .0 in
       let m = h .1 in
-      except-right 1 _ (except-right 2048 _ (except-right 1024 _ (except-right 1088 _
-      (words-except 64 64 (λ k m. Did (k / 32) (k % 32) m) (s .history) (o * 32 + p) u (omega (arith, typed .records))))))
+      except-right 1 _ (except-right 2048 _ (except-right 1024 _ (except-right 131072 _ (except-right 1088 _
+      (words-except 64 64 (λ k m. Did (k / 32) (k % 32) m) (s .history) (o * 32 + p) u (omega (arith, typed .records)))))))
 
-  pub line-same : (e : Entry) → Ranged e → at (withLine s e) (rank e) ≡ e ∷ []
-  unfolding withLine rank
-  line-same (Now t) h = at-now (withLine s (Now t))
-  line-same (Assigned u r) h =
+  pub line-same : (e : Entry) → Ranged e → hasRoom s e ≡ true → at s (rank e) ≡ [] → at (withLine s e) (rank e) ≡ e ∷ []
+  unfolding withLine rank key
+  line-same (Now t) h room none = at-now (withLine s (Now t))
+  line-same (Assigned u r) h room none =
       let l = h .0 in
       at-assigned (withLine s (Assigned u r)) u r l (h .1) ∙ rw (word-same 32 (s .assigned) u r (omega (arith, typed .users)) (h .1))
-  line-same (Granted r p) h =
+  line-same (Granted r p) h room none =
       let l = h .0 in
       at-granted (withLine s (Granted r p)) r p l (h .1) ∙ rw (word-same 32 (s .granted) r p (omega (arith, typed .roles)) (h .1))
-  line-same (Open i u) h =
+  line-same (LoanLine u v r t) h room none =
+      let small : (u * 64 + v) * 32 + r < 131072 = omega (arith, h .0, h .1, h .2) in
+      at-loan (withLine s (LoanLine u v r t)) ((u * 64 + v) * 32 + r) small
+      ∙ rw (loans-more s u v r t room) (loan-there (loansOf s) (loanOf u v r t) (no-lines _ (sym (at-loan s ((u * 64 + v) * 32 + r) small) ∙ none)))
+  line-same (Open i u) h room none =
       at-session (withLine s (Open i u)) i 0 (h .0) (omega arith) ∙ ap (openLine i) (session-at i (session true u (positionOf s i)) (h .0))
-  line-same (Place i x y) h =
+  line-same (Place i x y) h room none =
       at-session (withLine s (Place i x y)) i 1 (h .0) (omega arith) ∙ ap (placeLine i) (session-at i (session (isOpen s i) (userOf s i) (Known (record { x = x; y = y }))) (h .0))
-  line-same (Active i r) h =
+  line-same (Active i r) h room none =
       let l = h .0 in
       let m = h .1 in
       let e : 2 + r ≡ suc (suc r) = omega arith in
       at-session (withLine s (Active i r)) i (2 + r) l (omega arith) ∙ rw (e, word-same 32 (s .active) i r (omega (arith, typed .actives)) m)
-  line-same (Did o p u) h =
+  line-same (Did o p u) h room none =
       let l = h .0 in
       let m = h .1 in
       at-did (withLine s (Did o p u)) o p u l m (h .2) ∙ rw (word-same 64 (s .history) (o * 32 + p) u (omega (arith, typed .records)) (h .2))

@@ -1,9 +1,11 @@
 pub mod Rows
+pub mod LoanCells
 pub mod Cells
 pub mod Values
 pub mod Keeping
 pub mod Same
 pub mod GoodLines
+pub mod LoanNumber
 pub mod Earlier
 pub mod LineTexts
 pub mod Refusals

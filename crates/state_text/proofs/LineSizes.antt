@@ -16,7 +16,7 @@ use Rattle.forms.specs.Tables.{linesIn, formAt}
 use Rattle.forms.proofs.Digits.{digits-small, digits-step}
 use Rattle.state_text.specs.Entries.{savedForms, formOf, valuesOf, lineText}
 use Rattle.state_text.specs.Parts.{width}
-use Rattle.state_text.specs.declared.entries.Entry.the-variants.{Now, Assigned, Granted, Open, Place, Active, Did}
+use Rattle.state_text.specs.declared.entries.Entry.the-variants.{Now, Assigned, Granted, Loan, Open, Place, Active, Did}
 
 -- ---- with any numbers
 
@@ -32,6 +32,10 @@ module _ where
   pub granted-bytes : (r p : ℕ) → length (lineText (Granted r p)) ≡ 12 + (length (digitsOf r) + length (digitsOf p))
   unfolding lineText formOf valuesOf fill itemText textBy formAt linesIn savedForms isSlot kindOf lookup
   granted-bytes r p = simp length-append (omega arith)
+
+  pub loan-bytes : (u v r t : ℕ) → length (lineText (Loan u v r t)) ≡ 11 + (length (digitsOf u) + (length (digitsOf v) + (length (digitsOf r) + length (digitsOf t))))
+  unfolding lineText formOf valuesOf fill itemText textBy formAt linesIn savedForms isSlot kindOf lookup
+  loan-bytes u v r t = simp length-append (omega arith)
 
   pub open-bytes : (i u : ℕ) → length (lineText (Open i u)) ≡ 9 + (length (digitsOf i) + length (digitsOf u))
   unfolding lineText formOf valuesOf fill itemText textBy formAt linesIn savedForms isSlot kindOf lookup
@@ -75,6 +79,9 @@ assigned-size u r h k = assigned-bytes u r ∙ rw (digits-width u h, digits-widt
 
 pub granted-size : (r p : ℕ) → r < 100 → p < 100 → length (lineText (Granted r p)) ≡ 12 + (width r + width p)
 granted-size r p h k = granted-bytes r p ∙ rw (digits-width r h, digits-width p k)
+
+pub loan-size : (u v r t : ℕ) → u < 100 → v < 100 → r < 100 → length (lineText (Loan u v r t)) ≡ 11 + (width u + (width v + (width r + length (digitsOf t))))
+loan-size u v r t h k l = loan-bytes u v r t ∙ rw (digits-width u h, digits-width v k, digits-width r l)
 
 pub open-size : (i u : ℕ) → i < 100 → u < 100 → length (lineText (Open i u)) ≡ 9 + (width i + width u)
 open-size i u h k = open-bytes i u ∙ rw (digits-width i h, digits-width u k)

@@ -1,6 +1,6 @@
 -- The lowest broken rule of a list, and the loop over its slots that finds it.
 -- Assumes nothing.
-use mathlib.Core.Path.{_≡_, refl, ap, _∙_}
+use mathlib.Core.Path.{_≡_, refl, sym, ap, _∙_}
 use mathlib.Core.Bool.{Bool, true, false, cond}
 use mathlib.Core.List.{List, [], _∷_, map}
 use Prim.Native.Nat.{ℕ, zero, suc, _+_, _≤_, _<_}
@@ -9,12 +9,22 @@ use native.Mathlib.Omega.{arith}
 use lib.ListN.{length, getD, take}
 use Rattle.sets.proofs.Booleans.{both}
 use Rattle.rules.specs.Acceptance.{every, ruleOf}
+use Rattle.rules.specs.Breach.{isKept}
+use Rattle.rules.specs.Families.{view, tested}
 use Rattle.rules.specs.declared.families.Rule.{Rule}
 use Rattle.rules.specs.declared.lists.Slot.{Slot}
+use Rattle.rules.specs.declared.tests.Tested.{Tested}
 use Rattle.rules.proofs.Every.{everyFirst}
 use Rattle.steps.specs.declared.lowest.Lowest.the-variants.{Unbroken, BrokenAt}
 use Rattle.steps.specs.Lowest.{lowest}
-use Rattle.state_text.proofs.Same.{unequal}
+use Rattle.enforcement.specs.States.{heldRoles, ruleHolds}
+use Rattle.enforcement.specs.declared.states.State.{State}
+use Rattle.state_text.proofs.Rows.{unequal}
+
+-- a rule's full test, with the roles that the state's users hold, is whether it holds
+pub rule-tested : (rule : Rule) (s : State) {held : List ℕ} {breach : Tested} {kept : Bool} → held ≡ heldRoles s
+    → breach ≡ tested rule (view (s .assigned) held (s .granted) (s .sessions) (s .active) (s .history) (s .time)) → kept ≡ isKept breach → ruleHolds rule s ≡ kept
+rule-tested rule s e test k = sym (k ∙ ap isKept (rw e at test))
 
 -- no rule is the lowest broken one where every rule holds
 pub every-unbroken : (test : Rule → Bool) (n : ℕ) (rules : List Rule) → every test rules ≡ true → lowest test n rules ≡ Unbroken

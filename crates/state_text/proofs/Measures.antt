@@ -2,7 +2,7 @@
 -- Assumes nothing.
 use mathlib.Core.Path.{_≡_, refl, sym, ap, _∙_}
 use mathlib.Core.Bool.{Bool, true, false, cond, not, _&&_}
-use mathlib.Core.List.{List, [], _∷_, _++_}
+use mathlib.Core.List.{List, [], _∷_, _++_, map}
 use Prim.Native.Nat.{ℕ, zero, suc, _+_, _-_, _*_, _/_, _%_, _^_, _≤_, _<_}
 use native.Mathlib.Nat.{add-mul, mul-le-mul, le-refl}
 use native.Mathlib.Numerals.{add-one}
@@ -19,18 +19,20 @@ use Rattle.sets.proofs.Counting.{count-same, count-le, count-mono}
 use Rattle.sets.proofs.Members.{member-intersection}
 use Rattle.rules.specs.Families.{wordAt}
 use Rattle.rules.specs.declared.sessions.Session.{Session}
+use Rattle.loans.specs.declared.Loan.{Loan}
+use Rattle.enforcement.specs.States.{loansOf}
 use Rattle.enforcement.specs.declared.states.State.{State}
 use Rattle.forms.specs.Numbers.{digitsOf, signedOf, signedCode}
 use Rattle.forms.specs.Writing.{lastPlace, capped}
 use Rattle.forms.proofs.Puts.{capped-small, digits-length}
 use Rattle.state_text.specs.Entries.{lineText}
-use Rattle.state_text.specs.Saving.{over, only, placeLines, linesText, savedText}
+use Rattle.state_text.specs.Saving.{over, only, loanLine, placeLines, linesText, savedText}
 use Rattle.state_text.specs.Parts.{memberLine, memberLines, setLines, rowLines, historyLines, openLines, sessionParts, sessionPartsAt, width, Measured, SetMeasured, RowsMeasured}
 use Rattle.state_text.specs.declared.entries.Entry.{Entry}
 use Rattle.state_text.specs.declared.entries.Entry.the-variants.{Now, Open, Place, Active, Did}
 use Rattle.state_text.proofs.Rows.{over-zero, over-suc}
 use Rattle.state_text.proofs.JoinedLines.{text-append, text-none, text-one}
-use Rattle.state_text.proofs.LineSizes.{now-bytes, open-bytes, place-bytes, assigned-size, granted-size, active-size, did-size}
+use Rattle.state_text.proofs.LineSizes.{now-bytes, loan-bytes, open-bytes, place-bytes, assigned-size, granted-size, active-size, did-size}
 use Rattle.state_text.proofs.Writes.{low-set, saved-parts}
 
 -- ---- one line, or none
@@ -141,6 +143,16 @@ pub place-measured : (i : ℕ) (x y : ℤ) {r : ℕ} → i < 2 ^ 64 → SFits w3
 place-measured i x y k fx fy h =
     one-measured (Place i x y) h (omega (arith, place-bytes i x y, digits-length 19 i (omega arith), signed-length (signedCode x) (code-small x fx), signed-length (signedCode y) (code-small y fy))) (omega arith)
 
+-- a loan's numbers are bytes, and its end is below 2 ^ 32
+pub loan-measured : (loan : Loan) {r : ℕ} → loan .lender < 256 → loan .borrower < 256 → loan .role < 256 → loan .until < 2 ^ 32 → r ≡ capped (length (lineText (loanLine loan)))
+    → Measured (loanLine loan ∷ []) 100 r
+loan-measured loan hu hv hr ht h =
+    let u = digits-length 19 (loan .lender) (omega arith) in
+    let v = digits-length 19 (loan .borrower) (omega arith) in
+    let r = digits-length 19 (loan .role) (omega arith) in
+    let t = digits-length 19 (loan .until) (omega arith) in
+    one-measured (loanLine loan) h (omega (arith, loan-bytes (loan .lender) (loan .borrower) (loan .role) (loan .until), u, v, r, t)) (omega arith)
+
 -- ---- parts one after the other
 
 pub sum-start : (f : ℕ → List Entry) → 0 ≡ length (linesText (over 0 f))
@@ -173,7 +185,7 @@ unfolding historyLines memberLine
 history-turn words i before h set =
     let line : (u : ℕ) → u < 64 → length (lineText (Did (i / 32) (i % 32) u)) ≡ 9 + width (i / 32) + width (i % 32) + width u =
     λ u l. omega (arith, did-size (i / 32) (i % 32) u (omega arith) (omega arith) (omega arith)) in
-    sum-turn (historyLines words) i before (set .lines 6 (i / 32) (i % 32) line)
+    sum-turn (historyLines words) i before (set .lines 7 (i / 32) (i % 32) line)
 
 -- ---- a session
 
@@ -183,21 +195,22 @@ pub session-measured : (i : ℕ) (session : Session) (roles : ℕ) (word : ℕ) 
 unfolding sessionParts memberLine
 session-measured i session roles word e small h {opened} {placed} {active} o p a =
     let line : (j : ℕ) → j < 64 → length (lineText (Active i j)) ≡ 11 + width i + width j = λ j l. omega (arith, active-size i j (omega arith) (omega arith)) in
-    let last : active ≡ length (linesText (over 32 (memberLines 5 i 0 roles))) = a .lines 5 i 0 line ∙ ap (λ (es : List Entry). length (linesText es)) (low-set 5 i 0 word small ∙ rw e) in
+    let last : active ≡ length (linesText (over 32 (memberLines 6 i 0 roles))) = a .lines 6 i 0 line ∙ ap (λ (es : List Entry). length (linesText es)) (low-set 6 i 0 word small ∙ rw e) in
     record {
-      bytes = sym (joined-bytes (openLines i (session .«is_open») (session .user)) (placeLines i (session .position) ++ over 32 (memberLines 5 i 0 roles))
-          ∙ omega (arith, joined-bytes (placeLines i (session .position)) (over 32 (memberLines 5 i 0 roles)), o .bytes, p .bytes, last));
+      bytes = sym (joined-bytes (openLines i (session .«is_open») (session .user)) (placeLines i (session .position) ++ over 32 (memberLines 6 i 0 roles))
+          ∙ omega (arith, joined-bytes (placeLines i (session .position)) (over 32 (memberLines 6 i 0 roles)), o .bytes, p .bytes, last));
       bounded = omega (arith, o .bounded, p .bounded, a .bounded);
     }
 
 -- ---- the whole state
 
-pub saved-measured : (s : State) → length (s .assigned) ≡ 64 → length (s .granted) ≡ 32 → {time roles permissions sessions history a b : ℕ}
+pub saved-measured : (s : State) → length (s .assigned) ≡ 64 → length (s .granted) ≡ 32 → {time roles permissions lent sessions history a b c : ℕ}
     → time ≡ length (lineText (Now (s .time))) → RowsMeasured 13 (s .assigned) roles → RowsMeasured 12 (s .granted) permissions
+    → Measured (map loanLine (loansOf s)) c lent
     → Measured (over 32 (sessionPartsAt (s .sessions) (s .active))) a sessions → Measured (over 1024 (historyLines (s .history))) b history
-    → time + roles + permissions + sessions + history ≡ length (savedText s)
+    → time + roles + permissions + lent + sessions + history ≡ length (savedText s)
 unfolding memberLine
-saved-measured s ha hg {time} {roles} {permissions} {sessions} {history} t r p l h =
+saved-measured s ha hg {time} {roles} {permissions} {lent} {sessions} {history} t r p loans l h =
     let one : roles ≡ length (linesText (over (length (s .assigned)) (rowLines 1 (s .assigned)))) = r .lines 1 (λ u r hu hr. assigned-size u r (omega arith) (omega arith)) in
     let two : permissions ≡ length (linesText (over (length (s .granted)) (rowLines 2 (s .granted)))) = p .lines 2 (λ r p hr hp. granted-size r p (omega arith) (omega arith)) in
-    sym (ap length (saved-parts s ha hg) ∙ simp length-append (omega (arith, t, one, two, l .bytes, h .bytes)))
+    sym (ap length (saved-parts s ha hg) ∙ simp length-append (omega (arith, t, one, two, loans .bytes, l .bytes, h .bytes)))

@@ -1,5 +1,5 @@
--- Each refusal of a saved text has its own cause: 10, 11, 15 and 16 at a line after good ones, 17 where every line is good and that rule
--- is the lowest broken one, 40 where the rules are refused; and a text is read where every line is good and every rule holds.
+-- Each refusal of a saved text has its own cause: 10, 11, 15, 16 and 51 at a line after good ones, 17 where every line is good and that
+-- rule is the lowest broken one, 40 where the rules are refused; and a text is read where every line is good and every rule holds.
 -- Assumes nothing.
 use mathlib.Core.Path.{_≡_, refl, sym, ap, _∙_, subst}
 use mathlib.Core.Bool.{Bool, true, false, cond}
@@ -22,19 +22,18 @@ use Rattle.enforcement.proofs.Agreement.{lowest-none}
 use Rattle.enforcement.proofs.Causes.{lowest-means}
 use Rattle.forms.specs.Forms.{fill}
 use Rattle.forms.specs.Tables.{formAt}
-use Rattle.state_text.specs.Entries.{savedForms, lineText, inOrder}
+use Rattle.state_text.specs.Entries.{savedForms, lineText, inOrder, rests}
 use Rattle.state_text.specs.Saving.{linesText}
 use Rattle.state_text.specs.Reading.{Loading, loaded, refused, unlessBroken, underRules, readLines, readState, loadedOf}
-use Rattle.state_text.specs.Causes.{stateAfter, NoForm, OutOfRange, OutOfOrder, Unrested, BadLine, GoodText}
+use Rattle.state_text.specs.Causes.{stateAfter, NoForm, OutOfRange, OutOfOrder, Unrested, ThirtyThird, BadLine, GoodText}
 use Rattle.state_text.specs.declared.entries.Entry.{Entry}
 use Rattle.state_text.proofs.Values.{form-some, line-some}
-use Rattle.state_text.proofs.Same.{unequal}
-use Rattle.state_text.proofs.Rows.{by-test}
+use Rattle.state_text.proofs.Rows.{unequal, by-test}
 use Rattle.state_text.proofs.LineTexts.{NoFormAt}
 use Rattle.state_text.proofs.GoodLines.{nextRank, GoodLines}
-use Rattle.state_text.proofs.Earlier.{lacks-means, order-means, good-means}
+use Rattle.state_text.proofs.Earlier.{lacks-means, crowded-means, order-means, good-means}
 use Rattle.state_text.proofs.LowestRule.{every-unbroken, lowest-from}
-use Rattle.state_text.proofs.Refusals.{read-whole, LineCause, noForm, outOfRange, outOfOrder, unrested, AllGood, OneBad, Comes, from-comes, comes-from}
+use Rattle.state_text.proofs.Refusals.{read-whole, LineCause, noForm, outOfRange, outOfOrder, unrested, thirtyThird, AllGood, OneBad, Comes, from-comes, comes-from}
 
 -- ---- all lines
 
@@ -57,6 +56,8 @@ cause-some next s rest number (outOfRange e h) =
 cause-some next s rest number (outOfOrder e h) =
     inr (omega (arith, ap length (h .isLine), length-append (lineText (h .entry)) (h .more), line-some (h .entry)))
 cause-some next s rest number (unrested e h) =
+    inr (omega (arith, ap length (h .isLine), length-append (lineText (h .entry)) (h .more), line-some (h .entry)))
+cause-some next s rest number (thirtyThird e h) =
     inr (omega (arith, ap length (h .isLine), length-append (lineText (h .entry)) (h .more), line-some (h .entry)))
 
 no-lines : (es : List Entry) → length (linesText es) ≡ 0 → length es ≡ 0
@@ -135,6 +136,7 @@ module _ (earlier : List Entry) (rest : List ℕ) (good : GoodLines 0 fresh earl
       go (outOfRange e h) = absurd (omega arith)
       go (outOfOrder e h) = absurd (omega arith)
       go (unrested e h) = absurd (omega arith)
+      go (thirtyThird e h) = absurd (omega arith)
 
   of-10 : NoForm earlier rest → Caused 10 earlier rest
   of-10 h = record { isThere = h .isThere; cause = noForm refl (h .none) }
@@ -147,6 +149,7 @@ module _ (earlier : List Entry) (rest : List ℕ) (good : GoodLines 0 fresh earl
       go (outOfRange e h) = h
       go (outOfOrder e h) = absurd (omega arith)
       go (unrested e h) = absurd (omega arith)
+      go (thirtyThird e h) = absurd (omega arith)
 
   of-11 : OutOfRange rest → Caused 11 earlier rest
   of-11 h = record {
@@ -165,6 +168,7 @@ module _ (earlier : List Entry) (rest : List ℕ) (good : GoodLines 0 fresh earl
       go (outOfRange e h) = absurd (omega arith)
       go (outOfOrder e h) = record { entry = h .entry; more = h .more; isLine = h .isLine; ranged = h .ranged; disordered = order-means earlier good (h .entry) .0 (h .disordered) }
       go (unrested e h) = absurd (omega arith)
+      go (thirtyThird e h) = absurd (omega arith)
 
   of-15 : OutOfOrder earlier rest → Caused 15 earlier rest
   of-15 h = record {
@@ -187,6 +191,7 @@ module _ (earlier : List Entry) (rest : List ℕ) (good : GoodLines 0 fresh earl
         ordered = λ d. clash (h .ordered) (order-means earlier good (h .entry) .1 d);
         lacking = lacks-means earlier good (h .entry) (h .ranged) .0 (h .lacking);
       }
+      go (thirtyThird e h) = absurd (omega arith)
 
   of-16 : Unrested earlier rest → Caused 16 earlier rest
   of-16 h = record {
@@ -201,19 +206,60 @@ module _ (earlier : List Entry) (rest : List ℕ) (good : GoodLines 0 fresh earl
     });
   }
 
+  says-51 : Caused 51 earlier rest → ThirtyThird earlier rest
+  says-51 c = go (c .cause)
+    where
+      go : LineCause (nextRank 0 earlier) (stateAfter fresh earlier) rest 51 → ThirtyThird earlier rest
+      go (noForm e h) = absurd (omega arith)
+      go (outOfRange e h) = absurd (omega arith)
+      go (outOfOrder e h) = absurd (omega arith)
+      go (unrested e h) = absurd (omega arith)
+      go (thirtyThird e h) = record {
+        entry = h .entry;
+        more = h .more;
+        isLine = h .isLine;
+        ranged = h .ranged;
+        ordered = λ d. clash (h .ordered) (order-means earlier good (h .entry) .1 d);
+        rested = λ l. clash (h .rested) (lacks-means earlier good (h .entry) (h .ranged) .1 l);
+        crowded = crowded-means earlier good (h .entry) .0 (h .crowded);
+      }
+
+  of-51 : ThirtyThird earlier rest → Caused 51 earlier rest
+  of-51 h = record {
+    isThere = line-there (h .entry) (h .more) (h .isLine);
+    cause = thirtyThird refl (record {
+      entry = h .entry;
+      more = h .more;
+      isLine = h .isLine;
+      ranged = h .ranged;
+      ordered = by-test (inOrder (nextRank 0 earlier) (h .entry)) (λ e. e) (λ e. absurd (h .ordered (order-means earlier good (h .entry) .0 e)));
+      rested = by-test (rests (stateAfter fresh earlier) (h .entry)) (λ e. e) (λ e. absurd (h .rested (lacks-means earlier good (h .entry) (h .ranged) .0 e)));
+      crowded = crowded-means earlier good (h .entry) .1 (h .crowded);
+    });
+  }
+
 module _ (next : ℕ) (s : State) (rest : List ℕ) where
-  -- no line is refused by another number
-  line-number : (number : ℕ) → LineCause next s rest number → number < 17
-  line-number number (noForm e h) = omega arith
-  line-number number (outOfRange e h) = omega arith
-  line-number number (outOfOrder e h) = omega arith
-  line-number number (unrested e h) = omega arith
+  -- no line is refused by 17 or 40
+  not-17 : LineCause next s rest 17 → ⊥
+  not-17 (noForm e h) = omega arith
+  not-17 (outOfRange e h) = omega arith
+  not-17 (outOfOrder e h) = omega arith
+  not-17 (unrested e h) = omega arith
+  not-17 (thirtyThird e h) = omega arith
+
+  not-40 : LineCause next s rest 40 → ⊥
+  not-40 (noForm e h) = omega arith
+  not-40 (outOfRange e h) = omega arith
+  not-40 (outOfOrder e h) = omega arith
+  not-40 (unrested e h) = omega arith
+  not-40 (thirtyThird e h) = omega arith
 
   least-number : (number : ℕ) → LineCause next s rest number → 10 ≤ number
   least-number number (noForm e h) = omega arith
   least-number number (outOfRange e h) = omega arith
   least-number number (outOfOrder e h) = omega arith
   least-number number (unrested e h) = omega arith
+  least-number number (thirtyThird e h) = omega arith
 
 pub lines-number : (text : List ℕ) (number place : ℕ) → readLines text ≡ refused number place → 10 ≤ number
 lines-number text number place h = let b = lines-refused text number place .0 h in least-number _ _ _ number (b .bad .cause)
@@ -287,6 +333,13 @@ module _ (list : RuleList) (text : List ℕ) where
       λ b. line-refused 16 n (λ e. omega arith) .1 (bad-says of-16 text n b),
     )
 
+    -- 51: 2026-01, "a thirty-third is 51 with its line, looked for after 16"
+    pub refused-51 : (n : ℕ) → (readState list text ≡ refused 51 n) ↔ BadLine ThirtyThird text n
+    refused-51 n = (
+      λ h. bad-says says-51 text n (line-refused 51 n (λ e. omega arith) .0 h),
+      λ b. line-refused 51 n (λ e. omega arith) .1 (bad-says of-51 text n b),
+    )
+
     -- 17: "saved state breaks a rule", with the "lowest rule"; rules are numbered from 1 on
     pub refused-17 : (filler : Rule) (n : ℕ) → (readState list text ≡ refused 17 (suc n)) ↔
         ((s : State) × GoodText text s × (n < length (rulesOf list)) × (ruleHolds (getD (rulesOf list) n filler) s ≡ false) × ((k : ℕ) → k < n → ruleHolds (getD (rulesOf list) k filler) s ≡ true))
@@ -298,8 +351,9 @@ module _ (list : RuleList) (text : List ℕ) where
         to : (r : Loading) → readLines text ≡ r → underRules list r ≡ refused 17 (suc n) →
             (s : State) × GoodText text s × (n < length (rulesOf list)) × (ruleHolds (getD (rulesOf list) n filler) s ≡ false) × ((k : ℕ) → k < n → ruleHolds (getD (rulesOf list) k filler) s ≡ true)
         to (refused number place) e h =
-            let b = lines-refused text number place .0 e in
-            absurd (let z : number ≡ 17 = cc in omega (arith, line-number _ _ _ number (b .bad .cause)))
+            let z : number ≡ 17 = cc in
+            let b = lines-refused text 17 place .0 (e ∙ ap (λ (n : ℕ). refused n place) z) in
+            absurd (not-17 _ _ _ (b .bad .cause))
         to (loaded s) e h =
             let w = lowest-means (λ rule. ruleHolds rule s) (rulesOf list) filler n .0 (low (lowest (λ rule. ruleHolds rule s) 1 (rulesOf list)) h) in
             (s, good-text text s .0 e, w .0, w .1, w .2)
@@ -314,8 +368,9 @@ module _ (list : RuleList) (text : List ℕ) where
       where
         by-lines : (r : Loading) → readLines text ≡ r → underRules list r ≡ refused 17 place → 1 ≤ place
         by-lines (refused number line) e h =
-            let b = lines-refused text number line .0 e in
-            absurd (let z : number ≡ 17 = cc in omega (arith, line-number _ _ _ number (b .bad .cause)))
+            let z : number ≡ 17 = cc in
+            let b = lines-refused text 17 line .0 (e ∙ ap (λ (n : ℕ). refused n line) z) in
+            absurd (not-17 _ _ _ (b .bad .cause))
         by-lines (loaded s) e h = lowest-from (λ rule. ruleHolds rule s) 1 (rulesOf list) place (low (lowest (λ rule. ruleHolds rule s) 1 (rulesOf list)) h)
           where
             low : (l : Lowest) → unlessBroken s l ≡ refused 17 place → l ≡ BrokenAt place
@@ -347,38 +402,39 @@ module _ (list : RuleList) (text : List ℕ) where
       to : (b : Bool) → listAccepted list ≡ b → cond b (underRules list (readLines text)) (refused 40 0) ≡ refused 40 place → (listAccepted list ≡ false) × (place ≡ 0)
       to true listed h =
           let b = lines-refused text 40 place .0 (under-refused (readLines text) 40 place (λ e. omega arith) h) in
-          absurd (omega (arith, line-number _ _ _ 40 (b .bad .cause)))
+          absurd (not-40 _ _ _ (b .bad .cause))
       to false listed h = (listed, cc)
 
   -- no number but these is ever given
-  pub refused-number : (number place : ℕ) → readState list text ≡ refused number place → List·Memᴰ number (10 ∷ 11 ∷ 15 ∷ 16 ∷ 17 ∷ 40 ∷ [])
+  pub refused-number : (number place : ℕ) → readState list text ≡ refused number place → List·Memᴰ number (10 ∷ 11 ∷ 15 ∷ 16 ∷ 51 ∷ 17 ∷ 40 ∷ [])
   unfolding readState
   refused-number number place = by-list (listAccepted list)
     where
-      by-cause : {next : ℕ} {s : State} {rest : List ℕ} → LineCause next s rest number → List·Memᴰ number (10 ∷ 11 ∷ 15 ∷ 16 ∷ 17 ∷ 40 ∷ [])
+      by-cause : {next : ℕ} {s : State} {rest : List ℕ} → LineCause next s rest number → List·Memᴰ number (10 ∷ 11 ∷ 15 ∷ 16 ∷ 51 ∷ 17 ∷ 40 ∷ [])
       by-cause (noForm e h) = List·Memᴰ·head e
       by-cause (outOfRange e h) = List·Memᴰ·tail (List·Memᴰ·head e)
       by-cause (outOfOrder e h) = List·Memᴰ·tail (List·Memᴰ·tail (List·Memᴰ·head e))
       by-cause (unrested e h) = List·Memᴰ·tail (List·Memᴰ·tail (List·Memᴰ·tail (List·Memᴰ·head e)))
+      by-cause (thirtyThird e h) = List·Memᴰ·tail (List·Memᴰ·tail (List·Memᴰ·tail (List·Memᴰ·tail (List·Memᴰ·head e))))
 
       by-lowest : (s : State) (low : Lowest) → unlessBroken s low ≡ refused number place → number ≡ 17
       by-lowest s Unbroken h = unequal cc
       by-lowest s (BrokenAt k) h = cc
 
-      by-lines : (r : Loading) → readLines text ≡ r → underRules list r ≡ refused number place → List·Memᴰ number (10 ∷ 11 ∷ 15 ∷ 16 ∷ 17 ∷ 40 ∷ [])
+      by-lines : (r : Loading) → readLines text ≡ r → underRules list r ≡ refused number place → List·Memᴰ number (10 ∷ 11 ∷ 15 ∷ 16 ∷ 51 ∷ 17 ∷ 40 ∷ [])
       by-lines (loaded s) e h =
-          List·Memᴰ·tail (List·Memᴰ·tail (List·Memᴰ·tail (List·Memᴰ·tail (List·Memᴰ·head (by-lowest s (lowest (λ rule. ruleHolds rule s) 1 (rulesOf list)) h)))))
+          List·Memᴰ·tail (List·Memᴰ·tail (List·Memᴰ·tail (List·Memᴰ·tail (List·Memᴰ·tail (List·Memᴰ·head (by-lowest s (lowest (λ rule. ruleHolds rule s) 1 (rulesOf list)) h))))))
       by-lines (refused k p) e h = by-cause (lines-refused text number place .0 (e ∙ h) .bad .cause)
 
-      by-list : (listed : Bool) → cond listed (underRules list (readLines text)) (refused 40 0) ≡ refused number place → List·Memᴰ number (10 ∷ 11 ∷ 15 ∷ 16 ∷ 17 ∷ 40 ∷ [])
+      by-list : (listed : Bool) → cond listed (underRules list (readLines text)) (refused 40 0) ≡ refused number place → List·Memᴰ number (10 ∷ 11 ∷ 15 ∷ 16 ∷ 51 ∷ 17 ∷ 40 ∷ [])
       by-list true h = by-lines (readLines text) refl h
-      by-list false h = let e : number ≡ 40 = cc in List·Memᴰ·tail (List·Memᴰ·tail (List·Memᴰ·tail (List·Memᴰ·tail (List·Memᴰ·tail (List·Memᴰ·head e)))))
+      by-list false h = let e : number ≡ 40 = cc in List·Memᴰ·tail (List·Memᴰ·tail (List·Memᴰ·tail (List·Memᴰ·tail (List·Memᴰ·tail (List·Memᴰ·tail (List·Memᴰ·head e))))))
 
   -- of what `read_state` returns: 0, or one of these
-  pub read-number : List·Memᴰ (loadedOf (readState list text) .number) (0 ∷ 10 ∷ 11 ∷ 15 ∷ 16 ∷ 17 ∷ 40 ∷ [])
+  pub read-number : List·Memᴰ (loadedOf (readState list text) .number) (0 ∷ 10 ∷ 11 ∷ 15 ∷ 16 ∷ 51 ∷ 17 ∷ 40 ∷ [])
   read-number = by-result (readState list text) refl
     where
-      by-result : (r : Loading) → readState list text ≡ r → List·Memᴰ (loadedOf r .number) (0 ∷ 10 ∷ 11 ∷ 15 ∷ 16 ∷ 17 ∷ 40 ∷ [])
+      by-result : (r : Loading) → readState list text ≡ r → List·Memᴰ (loadedOf r .number) (0 ∷ 10 ∷ 11 ∷ 15 ∷ 16 ∷ 51 ∷ 17 ∷ 40 ∷ [])
       by-result (loaded s) e = List·Memᴰ·head refl
       by-result (refused number place) e = List·Memᴰ·tail (refused-number number place e)
 
@@ -386,14 +442,15 @@ module _ (list : RuleList) (text : List ℕ) where
   pub read-zero : loadedOf (readState list text) .number ≡ 0 → readState list text ≡ loaded (loadedOf (readState list text) .state)
   read-zero = by-result (readState list text) refl
     where
-      some : {number : ℕ} → List·Memᴰ number (10 ∷ 11 ∷ 15 ∷ 16 ∷ 17 ∷ 40 ∷ []) → 0 < number
+      some : {number : ℕ} → List·Memᴰ number (10 ∷ 11 ∷ 15 ∷ 16 ∷ 51 ∷ 17 ∷ 40 ∷ []) → 0 < number
       some (List·Memᴰ·head e) = omega arith
       some (List·Memᴰ·tail (List·Memᴰ·head e)) = omega arith
       some (List·Memᴰ·tail (List·Memᴰ·tail (List·Memᴰ·head e))) = omega arith
       some (List·Memᴰ·tail (List·Memᴰ·tail (List·Memᴰ·tail (List·Memᴰ·head e)))) = omega arith
       some (List·Memᴰ·tail (List·Memᴰ·tail (List·Memᴰ·tail (List·Memᴰ·tail (List·Memᴰ·head e))))) = omega arith
       some (List·Memᴰ·tail (List·Memᴰ·tail (List·Memᴰ·tail (List·Memᴰ·tail (List·Memᴰ·tail (List·Memᴰ·head e)))))) = omega arith
-      some (List·Memᴰ·tail (List·Memᴰ·tail (List·Memᴰ·tail (List·Memᴰ·tail (List·Memᴰ·tail (List·Memᴰ·tail m)))))) = absurd (List·Memᴰ·not-nil m)
+      some (List·Memᴰ·tail (List·Memᴰ·tail (List·Memᴰ·tail (List·Memᴰ·tail (List·Memᴰ·tail (List·Memᴰ·tail (List·Memᴰ·head e))))))) = omega arith
+      some (List·Memᴰ·tail (List·Memᴰ·tail (List·Memᴰ·tail (List·Memᴰ·tail (List·Memᴰ·tail (List·Memᴰ·tail (List·Memᴰ·tail m))))))) = absurd (List·Memᴰ·not-nil m)
 
       by-result : (r : Loading) → readState list text ≡ r → loadedOf r .number ≡ 0 → r ≡ loaded (loadedOf r .state)
       by-result (loaded s) e none = refl

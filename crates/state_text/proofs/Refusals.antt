@@ -10,7 +10,7 @@ use lib.ListN.{length, drop, length-append}
 use lib.Seq.{drop-append-seam}
 use Rattle.enforcement.specs.States.{fresh}
 use Rattle.enforcement.specs.declared.states.State.{State}
-use Rattle.state_text.specs.Entries.{lineText, rank, inOrder, withLine, rests}
+use Rattle.state_text.specs.Entries.{lineText, rank, inOrder, withLine, rests, hasRoom}
 use Rattle.state_text.specs.Saving.{linesText}
 use Rattle.state_text.specs.Reading.{readLine, entryIn, lengthIn, Loading, loaded, refused, lineVerdict, readFrom, readLines}
 use Rattle.state_text.specs.Causes.{Ranged, stateAfter, OutOfRange}
@@ -42,7 +42,8 @@ read-whole (c ∷ t) h = refl
 
 -- ---- what a result says
 
--- what is wrong with a line after the state s, by the reader's tests: a line in range that is not in order, or that does not rest on s
+-- what is wrong with a line after the state s, by the reader's tests: a line in range that is not in order, that does not rest on s, or that
+-- has no room there
 pub record Misplaced (next : ℕ) (text : List ℕ) : Type 0 where
   pub entry : Entry
   pub more : List ℕ
@@ -58,12 +59,22 @@ pub record Lacking (next : ℕ) (s : State) (text : List ℕ) : Type 0 where
   pub ordered : inOrder next entry ≡ true
   pub lacking : rests s entry ≡ false
 
+pub record Roomless (next : ℕ) (s : State) (text : List ℕ) : Type 0 where
+  pub entry : Entry
+  pub more : List ℕ
+  pub isLine : text ≡ lineText entry ++ more
+  pub ranged : Ranged entry
+  pub ordered : inOrder next entry ≡ true
+  pub rested : rests s entry ≡ true
+  pub crowded : hasRoom s entry ≡ false
+
 -- the number of a refusal, and what is wrong with the line
 pub data LineCause (next : ℕ) (s : State) (text : List ℕ) (number : ℕ) : Type 0 where
   noForm : number ≡ 10 → NoFormAt text → LineCause next s text number
   outOfRange : number ≡ 11 → OutOfRange text → LineCause next s text number
   outOfOrder : number ≡ 15 → Misplaced next text → LineCause next s text number
   unrested : number ≡ 16 → Lacking next s text → LineCause next s text number
+  thirtyThird : number ≡ 51 → Roomless next s text → LineCause next s text number
 
 pub record AllGood (next : ℕ) (s : State) (text : List ℕ) (given : State) : Type 0 where
   pub lines : List Entry
@@ -87,21 +98,21 @@ Comes n next s text (refused number place) = OneBad n next s text number place
 -- ---- the result says so
 
 -- one good line more in front
-prepend : (n next : ℕ) (s : State) (text more : List ℕ) (e : Entry) (r : Loading) → Ranged e → inOrder next e ≡ true → rests s e ≡ true → text ≡ lineText e ++ more
+prepend : (n next : ℕ) (s : State) (text more : List ℕ) (e : Entry) (r : Loading) → Ranged e → inOrder next e ≡ true → rests s e ≡ true → hasRoom s e ≡ true → text ≡ lineText e ++ more
     → Comes (suc n) (suc (rank e)) (withLine s e) more r → Comes n next s text r
 unfolding linesText
-prepend n next s text more e (loaded given) h o q whole c = record {
+prepend n next s text more e (loaded given) h o q room whole c = record {
   lines = e ∷ c .lines;
   whole = whole ∙ ap (λ (t : List ℕ). lineText e ++ t) (c .whole);
-  good = (h, o, q, c .good);
+  good = (h, o, q, room, c .good);
   same = c .same;
 }
-prepend n next s text more e (refused number place) h o q whole c = record {
+prepend n next s text more e (refused number place) h o q room whole c = record {
   earlier = e ∷ c .earlier;
   rest = c .rest;
   whole = whole ∙ ap (λ (t : List ℕ). lineText e ++ t) (c .whole) ∙ sym (append-assoc (lineText e) (linesText (c .earlier)) (c .rest));
   more = c .more;
-  good = (h, o, q, c .good);
+  good = (h, o, q, room, c .good);
   here = omega (arith, c .here);
   cause = c .cause;
 }
@@ -117,14 +128,18 @@ verdict-comes : (n next : ℕ) (s : State) (text : List ℕ) (a : LineRead) (r :
 verdict-comes n next s text (Bad number) r some (inl h) f =
     bad-here n next s text number some (noForm (h .0) (h .1))
 verdict-comes n next s text (Bad number) r some (inr h) f = bad-here n next s text number some (outOfRange (h .0) (h .1))
-verdict-comes n next s text (Good p) r some good f = go (inOrder next (p .entry)) refl (rests s (p .entry)) refl
+verdict-comes n next s text (Good p) r some good f = go (inOrder next (p .entry)) refl (rests s (p .entry)) refl (hasRoom s (p .entry)) refl
   where
-    go : (x : Bool) → inOrder next (p .entry) ≡ x → (y : Bool) → rests s (p .entry) ≡ y → Comes n next s text (cond x (cond y r (refused 16 n)) (refused 15 n))
-    go true o true q = prepend n next s text (drop (p .length) text) (p .entry) r (good .ranged) o q (good .isLine) (f good)
-    go true o false q =
+    go : (x : Bool) → inOrder next (p .entry) ≡ x → (y : Bool) → rests s (p .entry) ≡ y → (z : Bool) → hasRoom s (p .entry) ≡ z
+        → Comes n next s text (cond x (cond y (cond z r (refused 51 n)) (refused 16 n)) (refused 15 n))
+    go true o true q true room = prepend n next s text (drop (p .length) text) (p .entry) r (good .ranged) o q room (good .isLine) (f good)
+    go true o true q false room =
+        bad-here n next s text 51 some
+        (thirtyThird refl (record { entry = p .entry; more = drop (p .length) text; isLine = good .isLine; ranged = good .ranged; ordered = o; rested = q; crowded = room }))
+    go true o false q z room =
         bad-here n next s text 16 some
         (unrested refl (record { entry = p .entry; more = drop (p .length) text; isLine = good .isLine; ranged = good .ranged; ordered = o; lacking = q }))
-    go false o y q =
+    go false o y q z room =
         bad-here n next s text 15 some
         (outOfOrder refl (record { entry = p .entry; more = drop (p .length) text; isLine = good .isLine; ranged = good .ranged; disordered = o }))
 
@@ -145,11 +160,11 @@ from-comes (suc f) n next s (c ∷ t) l =
 -- ---- and is the one of which it can be said
 
 -- a good line at the front
-pub read-good-line : (f n next : ℕ) (s : State) (e : Entry) (more : List ℕ) → Ranged e → inOrder next e ≡ true → rests s e ≡ true
+pub read-good-line : (f n next : ℕ) (s : State) (e : Entry) (more : List ℕ) → Ranged e → inOrder next e ≡ true → rests s e ≡ true → hasRoom s e ≡ true
     → readFrom (suc f) n next s (lineText e ++ more) ≡ readFrom f (suc n) (suc (rank e)) (withLine s e) more
-read-good-line f n next s e more h o r =
+read-good-line f n next s e more h o r room =
     read-step f n next s (lineText e ++ more) (rw length-append (omega (arith, line-some e)))
-    ∙ rw (read-line e more h) (rw (o, r, drop-append-seam (lineText e) more))
+    ∙ rw (read-line e more h) (rw (o, r, room, drop-append-seam (lineText e) more))
 
 -- good lines at the front
 pub read-goods : (es : List Entry) (f n next : ℕ) (s : State) (more : List ℕ) → GoodLines next s es → length (linesText es ++ more) ≤ f
@@ -165,9 +180,9 @@ read-goods (e ∷ es) (suc f) n next s more good l =
     let k = length-append (lineText e) (linesText es ++ more) in
     let same = append-assoc (lineText e) (linesText es) more in
     let b : length (linesText es ++ more) ≤ f = omega (arith, k, ap length same, line-some e) in
-    let g = read-goods es f (suc n) (suc (rank e)) (withLine s e) more (good .3) b in
+    let g = read-goods es f (suc n) (suc (rank e)) (withLine s e) more (good .4) b in
     let m : suc n + length es ≡ n + suc (length es) = omega arith in
-    (g .0, g .1, ap (readFrom (suc f) n next s) same ∙ read-good-line f n next s e (linesText es ++ more) (good .0) (good .1) (good .2) ∙ g .2 ∙ rw m)
+    (g .0, g .1, ap (readFrom (suc f) n next s) same ∙ read-good-line f n next s e (linesText es ++ more) (good .0) (good .1) (good .2) (good .3) ∙ g .2 ∙ rw m)
 
 module _ (f n next : ℕ) (s : State) where
   bad-is : (text : List ℕ) (number : ℕ) → 0 < length text → length text ≤ f → LineCause next s text number → readFrom f n next s text ≡ refused number n
@@ -188,6 +203,9 @@ module _ (f n next : ℕ) (s : State) where
       go number (unrested e h) =
           let q = ap readLine (h .isLine) ∙ read-line (h .entry) (h .more) (h .ranged) in
           ap (λ (a : LineRead). lineVerdict n next s a later) q ∙ rw (h .ordered, h .lacking, e)
+      go number (thirtyThird e h) =
+          let q = ap readLine (h .isLine) ∙ read-line (h .entry) (h .more) (h .ranged) in
+          ap (λ (a : LineRead). lineVerdict n next s a later) q ∙ rw (h .ordered, h .rested, h .crowded, e)
 
 pub comes-from : (r : Loading) (f n next : ℕ) (s : State) (text : List ℕ) → length text ≤ f → Comes n next s text r → readFrom f n next s text ≡ r
 comes-from (loaded given) f n next s text l c =

@@ -24,7 +24,7 @@ use Rattle.state_text.specs.Causes.{stateAfter, GoodText, ReadUnder}
 use Rattle.state_text.specs.declared.entries.Entry.{Entry}
 use Rattle.state_text.specs.declared.entries.Entry.the-variants.{Now}
 use Rattle.state_text.proofs.Keeping.{Kept}
-use Rattle.state_text.proofs.Same.{unequal}
+use Rattle.state_text.proofs.Rows.{unequal}
 use Rattle.state_text.proofs.GoodLines.{GoodLines, good-left, lines-good, some-lines, fresh-lines}
 use Rattle.state_text.proofs.JoinedLines.{text-one}
 use Rattle.state_text.proofs.Earlier.{good-means}
@@ -60,13 +60,14 @@ module _ (list : RuleList) where
   read-accepted text s h =
       let good = read-good list text (list-read text s h) s .0 h in
       let kept = text-left text s (good .0) .0 in
-      record { accepted = kept .accepted; held = kept .held; obeyed = good .1 }
+      record { accepted = kept .accepted; held = kept .held; lending = kept .lending; obeyed = good .1 }
 
-  -- a state that 40 does not refuse, whose active roles are held and that obeys the rules, written and read, is itself
+  -- a state that 40 does not refuse, whose active roles are held, whose loans run as they were lent and that obeys the rules, written and
+  -- read, is itself
   pub good-back : listAccepted list ≡ true → (s : State) → Good list s → readState list (savedText s) ≡ loaded s
   unfolding savedText
   good-back listed s good =
-      let kept : Kept s = record { accepted = good .accepted; held = good .held } in
+      let kept : Kept s = record { accepted = good .accepted; held = good .held; lending = good .lending } in
       let lines = lines-good s kept in
       read-good list (savedText s) listed s .1
       (record { lines = linesOf s; some = some-lines s; whole = refl; good = good-means (linesOf s) .0 (lines .0); same = lines .1 }, good .obeyed)

@@ -11,6 +11,10 @@ use lib.Dec.{ltb, eqb}
 use borrow.Author.Tests.{ltb-true, ltb-false, lt-ltb, le-ltb, eqb-true, eqb-false}
 use Rattle.state_text.specs.Saving.{over}
 
+-- two lists of which one has an element and the other none
+pub unequal : {X : Type 0} → _≡_ {A = ℕ} 0 1 → X
+unequal e = absurd (omega arith)
+
 pub by-test : {X : Type 0} (b : Bool) → (b ≡ true → X) → (b ≡ false → X) → X
 by-test true f g = f refl
 by-test false f g = g refl

@@ -1,8 +1,9 @@
--- Two states that 40 does not refuse and that have the same lines are one.
+-- Two states that have the same lines are one, where 40 refuses neither and their loans run as they were lent.
 -- Assumes nothing.
 use mathlib.Core.Path.{_≡_, refl, sym, ap, _∙_}
 use mathlib.Core.Bool.{Bool, true, false}
-use Prim.Native.Nat.{ℕ, suc, _+_, _*_, _/_, _%_, _<_}
+use mathlib.Core.List.{List}
+use Prim.Native.Nat.{ℕ, suc, _+_, _*_, _/_, _%_, _≤_, _<_}
 use native.Mathlib.Omega.{arith}
 use lib.Seq.{ext-getD}
 use Rattle.sets.proofs.Width.{same-members}
@@ -10,18 +11,19 @@ use Rattle.places.specs.declared.Position.{Position}
 use Rattle.places.specs.declared.Position.the-variants.{Unknown, Known}
 use Rattle.rules.specs.Families.{wordAt, hasRole, closedSession, sessionAt}
 use Rattle.rules.specs.declared.sessions.Session.{Session}
-use Rattle.enforcement.specs.States.{isOpen, userOf, positionOf}
+use Rattle.loans.specs.Loans.{stored}
+use Rattle.loans.specs.declared.Loan.{Loan}
+use Rattle.enforcement.specs.States.{loansOf, isOpen, userOf, positionOf}
 use Rattle.enforcement.specs.Reached.{Accepted}
 use Rattle.enforcement.specs.declared.states.State.{State}
+use Rattle.enforcement.proofs.Loans.{loans-ordered}
 use Rattle.state_text.specs.Saving.{only, placeLines}
 use Rattle.state_text.specs.declared.entries.Entry.{Entry}
 use Rattle.state_text.specs.declared.entries.Entry.the-variants.{Assigned, Granted, Open, Active, Did}
-use Rattle.state_text.proofs.Cells.{allLines, sessionCells, at, at-now, at-assigned, at-granted, at-session, at-did}
-use Rattle.state_text.proofs.Keeping.{closed-empty}
-
--- two lists of which one has an element and the other none
-pub unequal : {X : Type 0} → _≡_ {A = ℕ} 0 1 → X
-unequal e = absurd (omega arith)
+use Rattle.state_text.proofs.Cells.{allLines, sessionCells, at, at-now, at-assigned, at-granted, at-loan, at-session, at-did}
+use Rattle.state_text.proofs.Keeping.{Kept, closed-empty}
+use Rattle.state_text.proofs.LoanCells.{keysBelow, cells-below, same-lines, all-keys}
+use Rattle.state_text.proofs.Rows.{unequal, over-same}
 
 only-same : (b c : Bool) (e : Entry) → only b e ≡ only c e → b ≡ c
 only-same true true e h = refl
@@ -47,16 +49,35 @@ open-same i false false u v h p q = (refl, p refl ∙ sym (q refl))
 closed-user : (s : State) → Accepted s → (i : ℕ) → i < 32 → isOpen s i ≡ false → userOf s i ≡ 0
 closed-user s accepted i h e = ap (λ (v : Session). v .user) (closed-empty s (accepted .unrefused) i h e)
 
-module _ (s s′ : State) (a : Accepted s) (a′ : Accepted s′) (e : (j : ℕ) → j < allLines → at s j ≡ at s′ j) where
-  time-same : s .time ≡ s′ .time
-  time-same = let h = sym (at-now s) ∙ e 0 (omega arith) ∙ at-now s′ in cc
+-- two states whose lines below n are the same
+module _ (s s′ : State) (a : Accepted s) (a′ : Accepted s′) (n : ℕ) (e : (j : ℕ) → j < n → at s j ≡ at s′ j) where
+  pub time-same : 1 ≤ n → s .time ≡ s′ .time
+  time-same past = let h = sym (at-now s) ∙ e 0 (omega arith) ∙ at-now s′ in cc
 
-  assigned-same : s .assigned ≡ s′ .assigned
-  assigned-same =
+  pub assigned-same : 2049 ≤ n → s .assigned ≡ s′ .assigned
+  assigned-same past =
       ext-getD 0 (s .assigned) (s′ .assigned) (a .typed .users ∙ sym (a′ .typed .users)) (λ u l.
       let hu : u < 64 = omega (arith, a .typed .users) in
       same-members 32 (wordAt (s .assigned) u) (wordAt (s′ .assigned) u) (a .typed .smallAssigned u) (a′ .typed .smallAssigned u) (λ r hr.
       only-same _ _ (Assigned u r) (sym (at-assigned s u r hu hr) ∙ e (1 + (u * 32 + r)) (omega arith) ∙ at-assigned s′ u r hu hr)))
+
+  -- the loans with a key below k
+  pub keys-same : (k : ℕ) → k ≤ 131072 → 3073 + k ≤ n → keysBelow k (loansOf s) ≡ keysBelow k (loansOf s′)
+  keys-same k h past =
+      same-lines (keysBelow k (loansOf s)) (keysBelow k (loansOf s′))
+      (sym (cells-below (loansOf s) (loans-ordered s a) k)
+      ∙ over-same k _ _ (λ j l. sym (at-loan s j (omega arith)) ∙ e (1 + (2048 + (1024 + j))) (omega arith) ∙ at-loan s′ j (omega arith))
+      ∙ cells-below (loansOf s′) (loans-ordered s′ a′) k)
+
+  pub loans-same : 134145 ≤ n → loansOf s ≡ loansOf s′
+  loans-same past = sym (all-keys (loansOf s) (loans-ordered s a)) ∙ keys-same 131072 (omega arith) (omega arith) ∙ all-keys (loansOf s′) (loans-ordered s′ a′)
+
+module _ (s s′ : State) (kept : Kept s) (kept′ : Kept s′) (e : (j : ℕ) → j < allLines → at s j ≡ at s′ j) where
+  abbrev a : Accepted s
+  a = kept .accepted
+
+  abbrev a′ : Accepted s′
+  a′ = kept′ .accepted
 
   granted-same : s .granted ≡ s′ .granted
   granted-same =
@@ -66,7 +87,7 @@ module _ (s s′ : State) (a : Accepted s) (a′ : Accepted s′) (e : (j : ℕ)
       only-same _ _ (Granted r p) (sym (at-granted s r p hr hp) ∙ e (1 + (2048 + (r * 32 + p))) (omega arith) ∙ at-granted s′ r p hr hp)))
 
   cell-same : (i m : ℕ) → i < 32 → m < 34 → sessionCells s i m ≡ sessionCells s′ i m
-  cell-same i m hi hm = sym (at-session s i m hi hm) ∙ e (1 + (2048 + (1024 + (i * 34 + m)))) (omega arith) ∙ at-session s′ i m hi hm
+  cell-same i m hi hm = sym (at-session s i m hi hm) ∙ e (1 + (2048 + (1024 + (131072 + (i * 34 + m))))) (omega arith) ∙ at-session s′ i m hi hm
 
   session-same : (i : ℕ) → i < 32 → sessionAt (s .sessions) i ≡ sessionAt (s′ .sessions) i
   session-same i hi =
@@ -95,13 +116,17 @@ module _ (s s′ : State) (a : Accepted s) (a′ : Accepted s′) (e : (j : ℕ)
       let hp : p < 32 = omega arith in
       same-members 64 (wordAt (s .history) k) (wordAt (s′ .history) k) (a .typed .smallHistory k) (a′ .typed .smallHistory k) (λ u hu.
       rw z (only-same (hasRole (s .history) (o * 32 + p) u) (hasRole (s′ .history) (o * 32 + p) u) (Did o p u)
-      (sym (at-did s o p u ho hp hu) ∙ e (1 + (2048 + (1024 + (1088 + ((o * 32 + p) * 64 + u))))) (omega arith) ∙ at-did s′ o p u ho hp hu))))
+      (sym (at-did s o p u ho hp hu) ∙ e (1 + (2048 + (1024 + (131072 + (1088 + ((o * 32 + p) * 64 + u)))))) (omega arith) ∙ at-did s′ o p u ho hp hu))))
+
+  filled-same : s .loans ≡ s′ .loans
+  filled-same = kept .lending .filled ∙ ap (λ (l : List Loan). stored l) (loans-same s s′ a a′ allLines e (omega arith)) ∙ sym (kept′ .lending .filled)
 
   pub same-state : s ≡ s′
   same-state = λ j. record {
-    time = time-same j;
-    assigned = assigned-same j;
+    time = time-same s s′ a a′ allLines e (omega arith) j;
+    assigned = assigned-same s s′ a a′ allLines e (omega arith) j;
     granted = granted-same j;
+    loans = filled-same j;
     sessions = sessions-same j;
     active = active-same j;
     history = history-same j;

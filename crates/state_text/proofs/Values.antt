@@ -2,6 +2,7 @@
 -- Assumes nothing.
 use mathlib.Core.Path.{_≡_, refl, subst, subst⁻¹}
 use mathlib.Core.Bool.{Bool, true, _&&_}
+use mathlib.Core.Logic.{_≢_}
 use mathlib.Core.List.{List, [], _∷_}
 use Prim.Native.Nat.{ℕ, zero, suc, _-_, _≤_, _<_, zero-le}
 use native.Mathlib.Omega.{arith}
@@ -18,7 +19,7 @@ use Rattle.forms.proofs.Coordinates.{coordinate-back, coordinate-grid, code-bac
 use Rattle.state_text.specs.Entries.{savedForms, entryOf, formOf, valuesOf, lineText}
 use Rattle.state_text.specs.Causes.{Ranged}
 use Rattle.state_text.specs.declared.entries.Entry.{Entry}
-use Rattle.state_text.specs.declared.entries.Entry.the-variants.{Now, Assigned, Granted, Open, Place, Active, Did}
+use Rattle.state_text.specs.declared.entries.Entry.the-variants.{Now, Assigned, Granted, Loan, Open, Place, Active, Did}
 
 -- ---- the table
 
@@ -27,23 +28,24 @@ pub forms-distinct : distinct (linesIn savedForms) ≡ true
 unfolding savedForms linesIn isDigit isSlot kindOf lookup
 forms-distinct = refl
 
-pub seven-forms : length (linesIn savedForms) ≡ 7
+pub eight-forms : length (linesIn savedForms) ≡ 8
 unfolding savedForms linesIn
-seven-forms = refl
+eight-forms = refl
 
 -- where each form starts, and where the last one ends
 abbrev pub formStarts : List ℕ
-formStarts = 0 ∷ 8 ∷ 23 ∷ 37 ∷ 48 ∷ 62 ∷ 75 ∷ 87 ∷ []
+formStarts = 0 ∷ 8 ∷ 23 ∷ 37 ∷ 52 ∷ 63 ∷ 77 ∷ 90 ∷ 102 ∷ []
 
 pub index-right : formStarts ≡ startsOf savedForms
 unfolding savedForms startsOf linesIn
 index-right = refl
 
-pub form-small : (e : Entry) → formOf e < 7
+pub form-small : (e : Entry) → formOf e < 8
 unfolding formOf
 form-small (Now t) = omega arith
 form-small (Assigned u r) = omega arith
 form-small (Granted r p) = omega arith
+form-small (Loan u v r t) = omega arith
 form-small (Open i u) = omega arith
 form-small (Place i x y) = omega arith
 form-small (Active i r) = omega arith
@@ -62,21 +64,23 @@ unfolding formAt linesIn savedForms formOf valuesOf allInRange isSlot inRange in
 ranged-values (Now t) h = rw (within t 3155759999 h)
 ranged-values (Assigned u r) h = rw (within u 63 (omega arith), within r 31 (omega arith))
 ranged-values (Granted r p) h = rw (within r 31 (omega arith), within p 31 (omega arith))
+ranged-values (Loan u v r t) h = rw (within u 63 (omega arith), within v 63 (omega arith), within r 31 (omega arith), within t 3155759999 (h .3))
 ranged-values (Open i u) h = rw (within i 31 (omega arith), within u 63 (omega arith))
 ranged-values (Place i x y) h = rw (within i 31 (omega arith), code-range x (h .1), code-range y (h .2))
 ranged-values (Active i r) h = rw (within i 31 (omega arith), within r 31 (omega arith))
 ranged-values (Did o p u) h = rw (within o 31 (omega arith), within p 31 (omega arith), within u 63 (omega arith))
 
--- a form past the others is `did`
-pub entry-did : (k : ℕ) (v : List ℕ) → 6 ≤ k → entryOf k v ≡ Did (getD v 0 0) (getD v 1 0) (getD v 2 0)
+-- any other form is `did`
+pub entry-did : (k : ℕ) (v : List ℕ) → k ≢ 0 → k ≢ 1 → k ≢ 2 → k ≢ 3 → k ≢ 4 → k ≢ 5 → k ≢ 6 → entryOf k v ≡ Did (getD v 0 0) (getD v 1 0) (getD v 2 0)
 unfolding entryOf
-entry-did zero v h = absurd (omega arith)
-entry-did (suc zero) v h = absurd (omega arith)
-entry-did (suc (suc zero)) v h = absurd (omega arith)
-entry-did (suc (suc (suc zero))) v h = absurd (omega arith)
-entry-did (suc (suc (suc (suc zero)))) v h = absurd (omega arith)
-entry-did (suc (suc (suc (suc (suc zero))))) v h = absurd (omega arith)
-entry-did (suc (suc (suc (suc (suc (suc k)))))) v h = refl
+entry-did zero v n0 n1 n2 n3 n4 n5 n6 = absurd (n0 refl)
+entry-did (suc zero) v n0 n1 n2 n3 n4 n5 n6 = absurd (n1 refl)
+entry-did (suc (suc zero)) v n0 n1 n2 n3 n4 n5 n6 = absurd (n2 refl)
+entry-did (suc (suc (suc zero))) v n0 n1 n2 n3 n4 n5 n6 = absurd (n3 refl)
+entry-did (suc (suc (suc (suc zero)))) v n0 n1 n2 n3 n4 n5 n6 = absurd (n4 refl)
+entry-did (suc (suc (suc (suc (suc zero))))) v n0 n1 n2 n3 n4 n5 n6 = absurd (n5 refl)
+entry-did (suc (suc (suc (suc (suc (suc zero)))))) v n0 n1 n2 n3 n4 n5 n6 = absurd (n6 refl)
+entry-did (suc (suc (suc (suc (suc (suc (suc k))))))) v n0 n1 n2 n3 n4 n5 n6 = refl
 
 -- what is read back into six values
 pub values-back : (e : Entry) → sets (replicate 6 0) 0 (valuesIn (formAt savedForms (formOf e)) (valuesOf e)) ≡ valuesOf e
@@ -84,6 +88,7 @@ unfolding formAt linesIn savedForms formOf valuesOf valuesIn isSlot kindOf looku
 values-back (Now t) = refl
 values-back (Assigned u r) = refl
 values-back (Granted r p) = refl
+values-back (Loan u v r t) = refl
 values-back (Open i u) = refl
 values-back (Place i x y) = refl
 values-back (Active i r) = refl
@@ -94,6 +99,7 @@ unfolding formOf valuesOf entryOf
 entry-back (Now t) h = refl
 entry-back (Assigned u r) h = refl
 entry-back (Granted r p) h = refl
+entry-back (Loan u v r t) h = refl
 entry-back (Open i u) h = refl
 entry-back (Place i x y) h = rw (coordinate-back x (h .1), coordinate-back y (h .2))
 entry-back (Active i r) h = refl
@@ -122,13 +128,18 @@ one-of a m rest h = let p = both (leb 0 a && leb a m) rest h in (at-most a m (p 
 two-of : (a m b n : ℕ) → ((leb 0 a && leb a m) && ((leb 0 b && leb b n) && true)) ≡ true → (a ≤ m) × (b ≤ n)
 two-of a m b n h = let p = one-of a m ((leb 0 b && leb b n) && true) h in (p .0, one-of b n true (p .1) .0)
 
-six-say : (k a b c d e f : ℕ) → k < 7 → allInRange (formAt savedForms k) (a ∷ b ∷ c ∷ d ∷ e ∷ f ∷ []) ≡ true → Says k (a ∷ b ∷ c ∷ d ∷ e ∷ f ∷ [])
+six-say : (k a b c d e f : ℕ) → k < 8 → allInRange (formAt savedForms k) (a ∷ b ∷ c ∷ d ∷ e ∷ f ∷ []) ≡ true → Says k (a ∷ b ∷ c ∷ d ∷ e ∷ f ∷ [])
 unfolding lineText entryOf formOf valuesOf fill itemText textBy formAt linesIn savedForms allInRange isSlot inRange inRangeBy kindOf lookup
 six-say zero a b c d e f l h = record { ranged = one-of a 3155759999 true h .0; text = refl }
 six-say (suc zero) a b c d e f l h = let p = two-of a 63 b 31 h in record { ranged = (omega (arith, p .0), omega (arith, p .1)); text = refl }
 six-say (suc (suc zero)) a b c d e f l h = let p = two-of a 31 b 31 h in record { ranged = (omega (arith, p .0), omega (arith, p .1)); text = refl }
-six-say (suc (suc (suc zero))) a b c d e f l h = let p = two-of a 31 b 63 h in record { ranged = (omega (arith, p .0), omega (arith, p .1)); text = refl }
-six-say (suc (suc (suc (suc zero)))) a b c d e f l h =
+six-say (suc (suc (suc zero))) a b c d e f l h =
+    let p = one-of a 63 ((leb 0 b && leb b 63) && ((leb 0 c && leb c 31) && ((leb 0 d && leb d 3155759999) && true))) h in
+    let q = one-of b 63 ((leb 0 c && leb c 31) && ((leb 0 d && leb d 3155759999) && true)) (p .1) in
+    let r = two-of c 31 d 3155759999 (q .1) in
+    record { ranged = (omega (arith, p .0), omega (arith, q .0), omega (arith, r .0), r .1); text = refl }
+six-say (suc (suc (suc (suc zero)))) a b c d e f l h = let p = two-of a 31 b 63 h in record { ranged = (omega (arith, p .0), omega (arith, p .1)); text = refl }
+six-say (suc (suc (suc (suc (suc zero))))) a b c d e f l h =
     let p = one-of a 31 (leb (amountOf b) 1000000 && (leb (amountOf c) 1000000 && true)) h in
     let q = both (leb (amountOf b) 1000000) (leb (amountOf c) 1000000 && true) (p .1) in
     let r = both (leb (amountOf c) 1000000) true (q .1) in
@@ -136,20 +147,20 @@ six-say (suc (suc (suc (suc zero)))) a b c d e f l h =
       ranged = (omega (arith, p .0), coordinate-grid b, coordinate-grid c);
       text = rw (code-back b (q .0), code-back c (r .0));
     }
-six-say (suc (suc (suc (suc (suc zero))))) a b c d e f l h = let p = two-of a 31 b 31 h in record { ranged = (omega (arith, p .0), omega (arith, p .1)); text = refl }
-six-say (suc (suc (suc (suc (suc (suc zero)))))) a b c d e f l h =
+six-say (suc (suc (suc (suc (suc (suc zero)))))) a b c d e f l h = let p = two-of a 31 b 31 h in record { ranged = (omega (arith, p .0), omega (arith, p .1)); text = refl }
+six-say (suc (suc (suc (suc (suc (suc (suc zero))))))) a b c d e f l h =
     let p = one-of a 31 ((leb 0 b && leb b 31) && ((leb 0 c && leb c 63) && true)) h in
     let q = two-of b 31 c 63 (p .1) in
     record { ranged = (omega (arith, p .0), omega (arith, q .0), omega (arith, q .1)); text = refl }
-six-say (suc (suc (suc (suc (suc (suc (suc k))))))) a b c d e f l h = absurd (omega arith)
+six-say (suc (suc (suc (suc (suc (suc (suc (suc k)))))))) a b c d e f l h = absurd (omega arith)
 
-pub values-say : (k : ℕ) (v : List ℕ) → k < 7 → length v ≡ 6 → allInRange (formAt savedForms k) v ≡ true → Says k v
+pub values-say : (k : ℕ) (v : List ℕ) → k < 8 → length v ≡ 6 → allInRange (formAt savedForms k) v ≡ true → Says k v
 values-say k v l six h =
     subst⁻¹ (Says k) (six-of v six)
     (six-say k (getD v 0 0) (getD v 1 0) (getD v 2 0) (getD v 3 0) (getD v 4 0) (getD v 5 0) l (subst (λ (x : List ℕ). allInRange (formAt savedForms k) x ≡ true) (six-of v six) h))
 
 -- a form has a byte at least
-pub form-some : (k : ℕ) (v : List ℕ) → k < 7 → 0 < length (fill (formAt savedForms k) v)
+pub form-some : (k : ℕ) (v : List ℕ) → k < 8 → 0 < length (fill (formAt savedForms k) v)
 unfolding fill itemText textBy formAt linesIn savedForms isSlot kindOf lookup
 form-some zero v h = omega arith
 form-some (suc zero) v h = omega arith
@@ -158,7 +169,8 @@ form-some (suc (suc (suc zero))) v h = omega arith
 form-some (suc (suc (suc (suc zero)))) v h = omega arith
 form-some (suc (suc (suc (suc (suc zero))))) v h = omega arith
 form-some (suc (suc (suc (suc (suc (suc zero)))))) v h = omega arith
-form-some (suc (suc (suc (suc (suc (suc (suc k))))))) v h = absurd (omega arith)
+form-some (suc (suc (suc (suc (suc (suc (suc zero))))))) v h = omega arith
+form-some (suc (suc (suc (suc (suc (suc (suc (suc k)))))))) v h = absurd (omega arith)
 
 pub line-some : (e : Entry) → 0 < length (lineText e)
 unfolding lineText

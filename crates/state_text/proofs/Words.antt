@@ -15,7 +15,7 @@ use Rattle.state_text.specs.Entries.{savedForms, formOf, valuesOf, lineT
 use Rattle.state_text.specs.Causes.{Ranged}
 use Rattle.state_text.specs.Words.{lineWords}
 use Rattle.state_text.specs.declared.entries.Entry.{Entry}
-use Rattle.state_text.specs.declared.entries.Entry.the-variants.{Now, Assigned, Granted, Open, Place, Active, Did}
+use Rattle.state_text.specs.declared.entries.Entry.the-variants.{Now, Assigned, Granted, Loan, Open, Place, Active, Did}
 
 on-grid-short : (z : ℤ) → onGrid z ≡ true → natAbs z ≤ 9999999999
 on-grid-short z h = omega (arith, leb-true (natAbs z) 1000000 h)
@@ -25,6 +25,7 @@ unfolding lineText formOf valuesOf fill itemText textBy isSlot kindOf lookup for
 line-reads (Now t) h = refl
 line-reads (Assigned u r) h = refl
 line-reads (Granted r p) h = refl
+line-reads (Loan u v r t) h = refl
 line-reads (Open i u) h = refl
 line-reads (Place i x y) h = rw (signed-text x (on-grid-short x (h .1)), signed-text y (on-grid-short y (h .2)))
 line-reads (Active i r) h = refl

@@ -1,11 +1,12 @@
 -- Laws of the writer's functions: a loop that writes one part after another, the lines of a set, and the whole state.
 -- Assumes nothing.
 use mathlib.Core.Path.{_≡_, refl, sym, ap, _∙_}
-use mathlib.Core.Bool.{Bool, true, false}
-use mathlib.Core.List.{List, [], _∷_, _++_}
+use mathlib.Core.Bool.{Bool, true, false, _&&_}
+use mathlib.Core.List.{List, [], _∷_, _++_, map, append-assoc, append-nil}
 use Prim.Native.Nat.{ℕ, _+_, _*_, _/_, _%_, _^_, _≤_, _<_}
 use native.Mathlib.Numerals.{add-one}
 use native.Mathlib.Omega.{arith}
+use lib.Dec.{ltb}
 use lib.ListN.{length}
 use borrow.Author.Tests.{le-leb, lt-leb}
 use Rattle.sets.specs.Sets.{member}
@@ -17,11 +18,15 @@ use Rattle.forms.specs.declared.writing.Written.the-variants.{Length, Refused}
 use Rattle.forms.proofs.Puts.{then, like, nothing-written, same-length, measure, at-front}
 use Rattle.rules.specs.Families.{wordAt, sessionAt}
 use Rattle.rules.specs.declared.sessions.Session.{Session}
-use Rattle.enforcement.specs.States.{assignedRole, carries, did, stateAccepted}
+use Rattle.loans.specs.Loans.{noLoan, running}
+use Rattle.loans.specs.declared.Loan.{Loan}
+use Rattle.loans.specs.declared.Loans.{Loans}
+use Rattle.loans.proofs.Remaining as loop
+use Rattle.enforcement.specs.States.{assignedRole, carries, loansOf, did, stateAccepted}
 use Rattle.enforcement.specs.declared.states.State.{State}
 use Rattle.state_text.specs.Entries.{lineText}
-use Rattle.state_text.specs.Saving.{over, only, placeLines, sessionLines, linesOf, linesText, savedText, writtenState, lentState}
-use Rattle.state_text.specs.Parts.{memberLine, memberLines, setLines, rowLines, historyLines, openLines, sessionParts, sessionPartsAt}
+use Rattle.state_text.specs.Saving.{over, only, loanLine, placeLines, sessionLines, linesOf, linesText, savedText, writtenState, lentState}
+use Rattle.state_text.specs.Parts.{memberLine, memberLines, setLines, rowLines, historyLines, loanAt, openLines, sessionParts, sessionPartsAt}
 use Rattle.state_text.specs.declared.entries.Entry.{Entry}
 use Rattle.state_text.specs.declared.entries.Entry.the-variants.{Now, Assigned, Granted, Did}
 use Rattle.state_text.proofs.Rows.{over-zero, over-suc, over-same, over-more, over-mul}
@@ -86,9 +91,32 @@ unfolding rowLines
 row-turn form words {i = i} inv {word} e h w = turn inv (like (ap linesText (sym (low-set form i 0 word h ∙ rw e))) w)
 
 pub history-turn : (words : List ℕ) {l₀ : List ℕ} {at : ℕ} {l : List ℕ} {p i : ℕ} → Loop (historyLines words) l₀ at l p i
-    → {p′ : ℕ} {l′ : List ℕ} → Wrote l p (linesText (setLines 6 (i / 32) (i % 32) (wordAt words i))) p′ l′ → Loop (historyLines words) l₀ at l′ p′ (i + 1)
+    → {p′ : ℕ} {l′ : List ℕ} → Wrote l p (linesText (setLines 7 (i / 32) (i % 32) (wordAt words i))) p′ l′ → Loop (historyLines words) l₀ at l′ p′ (i + 1)
 unfolding historyLines
 history-turn words inv w = turn inv w
+
+-- ---- the loans
+
+-- the line of the loan at i
+abbrev pub loanPart : Loans → ℕ → List Entry
+loanPart loans i = loanLine (loanAt (loans .entries) i) ∷ []
+
+-- the lines of the loans passed, and of those that a loop still has before it
+abbrev pub Shown : Loans → ℕ → Type 0
+Shown loans i = over i (loanPart loans) ++ map loanLine (loop.remaining loans i) ≡ map loanLine (running loans)
+
+module _ (loans : Loans) where
+  pub shown-start : Shown loans 0
+  shown-start = rw (over-zero (loanPart loans))
+
+  module _ (i : ℕ) (long : length (loans .entries) ≡ 32) (shown : Shown loans i) where
+    pub shown-turn : (ltb i (loans .count) && ltb i 32) ≡ true → Shown loans (i + 1)
+    shown-turn more =
+        rw (add-one i, over-suc i (loanPart loans), append-assoc)
+        (ap (λ (l : List Loan). over i (loanPart loans) ++ map loanLine l) (sym (rw (add-one i) at (loop.turn loans i noLoan long more))) ∙ shown)
+
+    pub shown-end : (ltb i (loans .count) && ltb i 32) ≡ false → over i (loanPart loans) ≡ map loanLine (running loans)
+    shown-end none = sym (append-nil (over i (loanPart loans))) ∙ ap (λ (l : List Loan). over i (loanPart loans) ++ map loanLine l) (sym (loop.none-remaining loans i long none)) ∙ shown
 
 -- ---- a session
 
@@ -96,14 +124,14 @@ pub session-parts : (i : ℕ) (session : Session) (roles : ℕ) (word : ℕ) →
     → {l : List ℕ} {at a : ℕ} {k : List ℕ} {b : ℕ} {m : List ℕ} {r : ℕ} {l′ : List ℕ} → length l ≤ lastPlace
     → Wrote l at (linesText (openLines i (session .«is_open») (session .user))) a k
     → Wrote k a (linesText (placeLines i (session .position))) b m
-    → Wrote m b (linesText (setLines 5 i 0 word)) r l′
+    → Wrote m b (linesText (setLines 6 i 0 word)) r l′
     → Wrote l at (linesText (sessionParts i session roles)) r l′
 unfolding sessionParts
 session-parts i session roles word e h {l} {at} {a} {k} {b} {m} {r} {l′} small opened placed active =
     like
-    (text-append (openLines i (session .«is_open») (session .user)) (placeLines i (session .position) ++ over 32 (memberLines 5 i 0 roles))
-    ∙ ap (λ (t : List ℕ). linesText (openLines i (session .«is_open») (session .user)) ++ t) (text-append (placeLines i (session .position)) (over 32 (memberLines 5 i 0 roles))))
-    (then small opened (then (rw (same-length opened) small) placed (like (ap linesText (sym (low-set 5 i 0 word h ∙ rw e))) active)))
+    (text-append (openLines i (session .«is_open») (session .user)) (placeLines i (session .position) ++ over 32 (memberLines 6 i 0 roles))
+    ∙ ap (λ (t : List ℕ). linesText (openLines i (session .«is_open») (session .user)) ++ t) (text-append (placeLines i (session .position)) (over 32 (memberLines 6 i 0 roles))))
+    (then small opened (then (rw (same-length opened) small) placed (like (ap linesText (sym (low-set 6 i 0 word h ∙ rw e))) active)))
 
 pub session-turn : (sessions : List Session) (active : List ℕ) {l₀ : List ℕ} {at : ℕ} {l : List ℕ} {p i : ℕ} → Loop (sessionPartsAt sessions active) l₀ at l p i
     → {p′ : ℕ} {l′ : List ℕ} → Wrote l p (linesText (sessionParts i (sessionAt sessions i) (wordAt active i))) p′ l′ → Loop (sessionPartsAt sessions active) l₀ at l′ p′ (i + 1)
@@ -135,35 +163,40 @@ saved-whole : (s : State)
     → savedText s ≡ linesText (Now (s .time) ∷ [])
     ++ (linesText (over 64 (λ u. over 32 (λ r. only (assignedRole s u r) (Assigned u r))))
     ++ (linesText (over 32 (λ r. over 32 (λ p. only (carries s r p) (Granted r p))))
-    ++ (linesText (over 32 (sessionLines s)) ++ linesText (over 32 (λ o. over 32 (λ p. over 64 (λ u. only (did s o p u) (Did o p u))))))))
+    ++ (linesText (map loanLine (loansOf s))
+    ++ (linesText (over 32 (sessionLines s)) ++ linesText (over 32 (λ o. over 32 (λ p. over 64 (λ u. only (did s o p u) (Did o p u)))))))))
 unfolding savedText linesOf
 saved-whole s =
     text-append _ _ ∙ ap (λ (z : List ℕ). linesText (Now (s .time) ∷ []) ++ z)
     (text-append _ _ ∙ ap (λ (z : List ℕ). linesText (over 64 (λ u. over 32 (λ r. only (assignedRole s u r) (Assigned u r)))) ++ z)
     (text-append _ _ ∙ ap (λ (z : List ℕ). linesText (over 32 (λ r. over 32 (λ p. only (carries s r p) (Granted r p)))) ++ z)
-    (text-append _ _)))
+    (text-append _ _ ∙ ap (λ (z : List ℕ). linesText (map loanLine (loansOf s)) ++ z)
+    (text-append _ _))))
 
 pub saved-parts : (s : State) → length (s .assigned) ≡ 64 → length (s .granted) ≡ 32
     → savedText s ≡ lineText (Now (s .time))
     ++ (linesText (over (length (s .assigned)) (rowLines 1 (s .assigned)))
     ++ (linesText (over (length (s .granted)) (rowLines 2 (s .granted)))
-    ++ (linesText (over 32 (sessionPartsAt (s .sessions) (s .active))) ++ linesText (over 1024 (historyLines (s .history))))))
+    ++ (linesText (map loanLine (loansOf s))
+    ++ (linesText (over 32 (sessionPartsAt (s .sessions) (s .active))) ++ linesText (over 1024 (historyLines (s .history)))))))
 saved-parts s ha hg = rw (ha, hg, assigned-rows s, granted-rows s, session-rows s, history-rows s, ← text-one (Now (s .time))) (saved-whole s)
 
 pub state-parts : (s : State) → length (s .assigned) ≡ 64 → length (s .granted) ≡ 32
-    → {l : List ℕ} {i p : ℕ} {a : List ℕ} {q : ℕ} {b : List ℕ} {x : ℕ} {c : List ℕ} {y : ℕ} {d : List ℕ} {r : ℕ} {l′ : List ℕ} → length l ≤ lastPlace
+    → {l : List ℕ} {i p : ℕ} {a : List ℕ} {q : ℕ} {b : List ℕ} {x : ℕ} {c : List ℕ} {z : ℕ} {m : List ℕ} {y : ℕ} {d : List ℕ} {r : ℕ} {l′ : List ℕ} → length l ≤ lastPlace
     → Wrote l i (lineText (Now (s .time))) p a
     → Wrote a p (linesText (over (length (s .assigned)) (rowLines 1 (s .assigned)))) q b
     → Wrote b q (linesText (over (length (s .granted)) (rowLines 2 (s .granted)))) x c
-    → Wrote c x (linesText (over 32 (sessionPartsAt (s .sessions) (s .active)))) y d
+    → Wrote c x (linesText (map loanLine (loansOf s))) z m
+    → Wrote m z (linesText (over 32 (sessionPartsAt (s .sessions) (s .active)))) y d
     → Wrote d y (linesText (over 1024 (historyLines (s .history)))) r l′
     → Wrote l i (savedText s) r l′
-state-parts s ha hg small now assigned granted sessions history =
+state-parts s ha hg small now assigned granted loans sessions history =
     let one = same-length now in
     let two = same-length assigned ∙ one in
     let three = same-length granted ∙ two in
+    let four = same-length loans ∙ three in
     like (saved-parts s ha hg)
-    (then small now (then (rw one small) assigned (then (rw two small) granted (then (rw three small) sessions history))))
+    (then small now (then (rw one small) assigned (then (rw two small) granted (then (rw three small) loans (then (rw four small) sessions history)))))
 
 -- ---- whole, where it fits
 

@@ -1,5 +1,6 @@
 -- Document 01, 'Refused': "For each text line in order .. 10, 11, 15, 16 (saved) ..; the first bad line counts, then 17. The 40 of rules
--- handed in with a saved text comes before them all." Assumes nothing.
+-- handed in with a saved text comes before them all." Request 2026-01: "a thirty-third is 51 with its line, looked for after 16".
+-- Assumes nothing.
 use Prim.Native.Nat.{ℕ, zero, suc}
 use mathlib.Core.Bool.{cond}
 use mathlib.Core.List.{List, [], _∷_}
@@ -15,7 +16,7 @@ use Rattle.steps.specs.declared.lowest.Lowest.the-variants.{Unbroken, BrokenAt}
 use Rattle.steps.specs.Lowest.{lowest}
 use Rattle.enforcement.specs.States.{fresh, ruleHolds}
 use Rattle.enforcement.specs.declared.states.State.{State}
-use Rattle.state_text.specs.Entries.{savedForms, entryOf, rank, inOrder, withLine, rests}
+use Rattle.state_text.specs.Entries.{savedForms, entryOf, rank, inOrder, withLine, rests, hasRoom}
 use Rattle.state_text.specs.declared.entries.Entry.{Entry}
 use Rattle.state_text.specs.declared.entries.Entry.the-variants.{Now}
 use Rattle.state_text.specs.declared.reading.LineRead.{LineRead}
@@ -26,7 +27,7 @@ use Rattle.state_text.specs.declared.reading.LoadedState.{LoadedState}
 
 unfoldable pub lineAfter : Found → LineRead
 lineAfter f =
-    cond (ltb (f .form) 7)
+    cond (ltb (f .form) 8)
     (cond (allInRange (formAt savedForms (f .form)) (f .values)) (Good (record { entry = entryOf (f .form) (f .values); length = f .length })) (Bad 11))
     (Bad 10)
 
@@ -52,7 +53,9 @@ pub data Loading : Type 0 where
 abbrev pub lineVerdict : ℕ → ℕ → State → LineRead → Loading → Loading
 lineVerdict n next s (Bad number) later = refused number n
 lineVerdict n next s (Good parsed) later =
-    cond (inOrder next (parsed .entry)) (cond (rests s (parsed .entry)) later (refused 16 n)) (refused 15 n)
+    cond (inOrder next (parsed .entry))
+    (cond (rests s (parsed .entry)) (cond (hasRoom s (parsed .entry)) later (refused 51 n)) (refused 16 n))
+    (refused 15 n)
 
 -- the text from line n on; the first number bounds the lines that are read
 unfoldable pub readFrom : ℕ → ℕ → ℕ → State → List ℕ → Loading

@@ -1,16 +1,17 @@
 -- Document 01, 'Texts': a state's lines in their order, its text, and what writing it gives. Assumes nothing.
 use Prim.Native.Nat.{ℕ, zero, suc}
 use mathlib.Core.Bool.{Bool, true, false}
-use mathlib.Core.List.{List, [], _∷_, _++_}
+use mathlib.Core.List.{List, [], _∷_, _++_, map}
 use Rattle.forms.specs.Writing.{writtenIf, lentIf}
 use Rattle.forms.specs.declared.writing.Written.{Written}
 use Rattle.places.specs.declared.Position.{Position}
 use Rattle.places.specs.declared.Position.the-variants.{Unknown, Known}
-use Rattle.enforcement.specs.States.{assignedRole, carries, isOpen, userOf, positionOf, activeRole, did, stateAccepted}
+use Rattle.loans.specs.declared.Loan.{Loan}
+use Rattle.enforcement.specs.States.{assignedRole, carries, loansOf, isOpen, userOf, positionOf, activeRole, did, stateAccepted}
 use Rattle.enforcement.specs.declared.states.State.{State}
 use Rattle.state_text.specs.Entries.{lineText}
 use Rattle.state_text.specs.declared.entries.Entry.{Entry}
-use Rattle.state_text.specs.declared.entries.Entry.the-variants.{Now, Assigned, Granted, Open, Place, Active, Did}
+use Rattle.state_text.specs.declared.entries.Entry.the-variants.{Now, Assigned, Granted, Loan as LoanLine, Open, Place, Active, Did}
 
 -- ---- a state's lines
 
@@ -24,6 +25,10 @@ abbrev pub only : {A : Type 0} → Bool → A → List A
 only true a = a ∷ []
 only false a = []
 
+-- 2026-01: "saved as `(loan u v r t)`"
+abbrev pub loanLine : Loan → Entry
+loanLine loan = LoanLine (loan .lender) (loan .borrower) (loan .role) (loan .until)
+
 -- "(place s x y) if known"
 abbrev pub placeLines : ℕ → Position → List Entry
 placeLines i Unknown = []
@@ -34,14 +39,16 @@ unfoldable pub sessionLines : State → ℕ → List Entry
 sessionLines s i =
     only (isOpen s i) (Open i (userOf s i)) ++ (placeLines i (positionOf s i) ++ over 32 (λ r. only (activeRole s i r) (Active i r)))
 
--- "Saved state, ascending: (now t), (assigned u r), (granted r p), then per session ..; then (did o p u)"
+-- "Saved state, ascending: (now t), (assigned u r), (granted r p), then per session ..; then (did o p u)"; 2026-01: loans "after `granted`,
+-- ascending", as the state keeps them
 unfoldable pub linesOf : State → List Entry
 linesOf s =
     (Now (s .time) ∷ [])
     ++ (over 64 (λ u. over 32 (λ r. only (assignedRole s u r) (Assigned u r)))
     ++ (over 32 (λ r. over 32 (λ p. only (carries s r p) (Granted r p)))
+    ++ (map loanLine (loansOf s)
     ++ (over 32 (sessionLines s)
-    ++ over 32 (λ o. over 32 (λ p. over 64 (λ u. only (did s o p u) (Did o p u)))))))
+    ++ over 32 (λ o. over 32 (λ p. over 64 (λ u. only (did s o p u) (Did o p u))))))))
 
 -- ---- its text
 

@@ -7,16 +7,17 @@ ghost use Rattle.state_text.specs.Causes.{Ranged};
 ghost use Rattle.state_text.specs.Parts.{sessionOf};
 
 // The forms of a saved state, a line each; a mark stands for a number of its kind.
-pub(crate) const FORMS: [u8; 87] = *b"(now ~)\n\
+pub(crate) const FORMS: [u8; 102] = *b"(now ~)\n\
 (assigned @ $)\n\
 (granted $ %)\n\
+(loan @ @ $ ~)\n\
 (open & @)\n\
 (place & + +)\n\
 (active & $)\n\
 (did * % @)\n";
 
 // Where each form starts, and where the last one ends.
-pub(crate) const STARTS: [usize; 8] = [0, 8, 23, 37, 48, 62, 75, 87];
+pub(crate) const STARTS: [usize; 9] = [0, 8, 23, 37, 52, 63, 77, 90, 102];
 
 // A line, by its form and its numbers.
 pub enum Entry {
@@ -26,6 +27,8 @@ pub enum Entry {
     Assigned(u64, u64),
     // (granted r p)
     Granted(u64, u64),
+    // (loan u v r t)
+    Loan(u64, u64, u64, u64),
     // (open s u)
     Open(u64, u64),
     // (place s x y)
@@ -46,13 +49,14 @@ impl Entry {
             0 => Entry::Now(values[0]),
             1 => Entry::Assigned(values[0], values[1]),
             2 => Entry::Granted(values[0], values[1]),
-            3 => Entry::Open(values[0], values[1]),
-            4 => Entry::Place(
+            3 => Entry::Loan(values[0], values[1], values[2], values[3]),
+            4 => Entry::Open(values[0], values[1]),
+            5 => Entry::Place(
                 values[0],
                 forms::coordinate(values[1]),
                 forms::coordinate(values[2]),
             ),
-            5 => Entry::Active(values[0], values[1]),
+            6 => Entry::Active(values[0], values[1]),
             _ => Entry::Did(values[0], values[1], values[2]),
         }
     }
@@ -65,10 +69,11 @@ impl Entry {
             Entry::Now(_) => 0,
             Entry::Assigned(_, _) => 1,
             Entry::Granted(_, _) => 2,
-            Entry::Open(_, _) => 3,
-            Entry::Place(_, _, _) => 4,
-            Entry::Active(_, _) => 5,
-            Entry::Did(_, _, _) => 6,
+            Entry::Loan(_, _, _, _) => 3,
+            Entry::Open(_, _) => 4,
+            Entry::Place(_, _, _) => 5,
+            Entry::Active(_, _) => 6,
+            Entry::Did(_, _, _) => 7,
         }
     }
 
@@ -80,6 +85,7 @@ impl Entry {
             Entry::Now(time) => [time, 0, 0, 0, 0, 0],
             Entry::Assigned(user, role) => [user, role, 0, 0, 0, 0],
             Entry::Granted(role, permission) => [role, permission, 0, 0, 0, 0],
+            Entry::Loan(lender, borrower, role, until) => [lender, borrower, role, until, 0, 0],
             Entry::Open(session, user) => [session, user, 0, 0, 0, 0],
             Entry::Place(session, x, y) => {
                 let first = forms::signed_code(x);
@@ -99,6 +105,7 @@ impl Entry {
             Entry::Now(_) => 0,
             Entry::Assigned(_, _) => 0,
             Entry::Granted(_, _) => 0,
+            Entry::Loan(_, _, _, _) => 0,
             Entry::Open(session, _) => session as usize,
             Entry::Place(session, _, _) => session as usize,
             Entry::Active(session, _) => session as usize,
@@ -115,11 +122,14 @@ impl Entry {
             Entry::Now(_) => 0,
             Entry::Assigned(user, role) => column_rank(1, user, 32, role),
             Entry::Granted(role, permission) => column_rank(2049, role, 32, permission),
-            Entry::Open(session, _) => column_rank(3073, session, 34, 0),
-            Entry::Place(session, _, _) => column_rank(3073, session, 34, 1),
-            Entry::Active(session, role) => column_rank(3073, session, 34, 2 + role),
+            Entry::Loan(lender, borrower, role, _) => {
+                column_rank(3073, column_rank(0, lender, 64, borrower), 32, role)
+            }
+            Entry::Open(session, _) => column_rank(134145, session, 34, 0),
+            Entry::Place(session, _, _) => column_rank(134145, session, 34, 1),
+            Entry::Active(session, role) => column_rank(134145, session, 34, 2 + role),
             Entry::Did(object, permission, user) => {
-                column_rank(4161, column_rank(0, object, 32, permission), 64, user)
+                column_rank(135233, column_rank(0, object, 32, permission), 64, user)
             }
         }
     }
@@ -127,7 +137,7 @@ impl Entry {
 
 // The rank of a column of a row, after the lines before these rows.
 fn column_rank(start: u64, row: u64, width: u64, column: u64) -> u64
-    requires { ⌜ (start < 5000) × (row < 1024) × (width < 65) × (column < 64) ⌝ }
+    requires { ⌜ (start < 200000) × (row < 4096) × (width < 65) × (column < 64) ⌝ }
     ensures { λ r. ⌜ r ≡ start + (row * width + column) ⌝ }
 {
     start + (row * width + column)

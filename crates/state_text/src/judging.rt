@@ -16,6 +16,9 @@ pub(crate) fn lowest_broken(list: RuleList, state: State) -> Lowest
     ensures { λ r. ⌜ r ≡ lowest (λ rule. ruleHolds rule state) 1 (rulesOf list) ⌝ }
 {
     let length = list.length;
+    let loans = state.loans;
+    let assigned = state.assigned;
+    let held = loans.held(assigned);
     let sessions = state.sessions;
     let time = state.time;
     let mut i: usize = 0;
@@ -27,7 +30,7 @@ pub(crate) fn lowest_broken(list: RuleList, state: State) -> Lowest
         let rule = slot.rule;
         let tested = rule.test(
             &state.assigned,
-            &state.assigned,
+            &held,
             &state.granted,
             sessions,
             &state.active,

@@ -1,16 +1,21 @@
 // How long a state's text is, from the members that its sets have; no line of a set is written for it.
 ghost use mathlib.Core.Path.{_≡_};
+ghost use mathlib.Core.List.{[], _∷_, map};
 ghost use Prim.Native.Nat.{_≤_, _<_};
 ghost use lib.ListN.{length};
 ghost use Rattle.forms.specs.Writing.{capped};
+ghost use Rattle.loans.specs.Loans.{running};
 ghost use Rattle.state_text.specs.Entries.{lineText};
-ghost use Rattle.state_text.specs.Saving.{over, placeLines, savedText};
+ghost use Rattle.state_text.specs.Saving.{over, loanLine, placeLines, savedText};
 ghost use Rattle.state_text.specs.Parts.{width, Measured, SetMeasured, RowsMeasured, historyLines, openLines, sessionParts, sessionPartsAt};
 use crate::entries::Entry;
+use crate::writing::loan_line;
 use crate::writing::wide;
 use crate::writing::write_line;
 use enforcement::Session;
 use enforcement::State;
+use loans::Loan;
+use loans::Loans;
 use places::Position;
 use sets::word64;
 
@@ -21,9 +26,11 @@ pub fn saved_length(state: State) -> usize
     let time = line_length(Entry::Now(state.time));
     let roles = rows_length(13, &state.assigned);
     let permissions = rows_length(12, &state.granted);
+    let loans = state.loans;
+    let lent = loans_length(loans);
     let sessions = state.sessions;
     let opened = sessions_length(sessions, &state.active);
-    time + roles + permissions + opened + history_length(&state.history)
+    time + roles + permissions + lent + opened + history_length(&state.history)
 }
 
 // The lines of the sets of numbers below 32 that a list holds, where a line has so many bytes beside its two numbers.
@@ -38,6 +45,26 @@ fn rows_length(bytes: usize, words: &[u32]) -> usize
         i += 1;
     }
     total
+}
+
+fn loans_length(loans: Loans) -> usize
+    ensures { λ r. ⌜ Measured (map loanLine (running loans)) 3200 r ⌝ }
+{
+    let count = loans.count;
+    let mut total: usize = 0;
+    let mut i: usize = 0;
+    while (i < count) & (i < Loans::MOST) {
+        let loan = loans.entries[i];
+        total += loan_length(loan);
+        i += 1;
+    }
+    total
+}
+
+fn loan_length(loan: Loan) -> usize
+    ensures { λ r. ⌜ Measured (loanLine loan ∷ []) 100 r ⌝ }
+{
+    line_length(loan_line(loan))
 }
 
 fn sessions_length(sessions: [Session; 32], active: &[u32; 32]) -> usize

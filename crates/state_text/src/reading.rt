@@ -1,26 +1,26 @@
 // A saved text as a state.
 ghost use mathlib.Core.Path.{_≡_};
-ghost use lib.ListN.{length};
-ghost use Rattle.rules.specs.Families.{sessionAt};
-ghost use Rattle.enforcement.specs.declared.states.State.{State};
-ghost use Rattle.state_text.specs.Entries.{rests};
 ghost use Rattle.state_text.specs.Reading.{refused, readLine, readLines, readState, loadedOf};
-ghost use Rattle.state_text.specs.Causes.{Ranged};
-ghost use Rattle.state_text.specs.Parts.{sessionOf, lineNumber, numberIn};
+ghost use Rattle.state_text.specs.Parts.{lineNumber, numberIn};
 use crate::entries::Entry;
 use crate::entries::FORMS;
 use crate::entries::STARTS;
 use crate::entries::follows;
 use crate::judging::lowest_broken;
+use crate::lines::count_after;
+use crate::lines::has_room;
+use crate::lines::loan_after;
+use crate::lines::loan_place;
 use crate::lines::put_active;
 use crate::lines::put_assigned;
 use crate::lines::put_did;
 use crate::lines::put_granted;
+use crate::lines::put_held;
 use crate::lines::rests;
 use crate::lines::session_after;
 use crate::lines::time_after;
-use enforcement::Session;
 use enforcement::State;
+use loans::Loans;
 use rules::RuleList;
 use steps::Lowest;
 
@@ -32,7 +32,7 @@ pub struct Parsed {
 
 pub enum LineRead {
     Good(Parsed),
-    // 10, 11, 15 or 16
+    // 10 or 11
     Bad(u64),
 }
 
@@ -69,6 +69,8 @@ fn read_lines(text: &[u8]) -> LoadedState
         return refused(10, 1);
     }
     let mut state = State::fresh();
+    let mut loans = Loans::none();
+    let mut held = [0u32; 64];
     let mut rest = text;
     let mut line: usize = 1;
     let mut next: u64 = 0;
@@ -82,13 +84,19 @@ fn read_lines(text: &[u8]) -> LoadedState
         let i = entry.session();
         let session = state.sessions[i];
         let rank = entry.rank();
-        let number = check_line(entry, rank, next, session, &state.assigned);
+        let rested = rests(entry, session, &state.assigned, &held, state.time);
+        let number = line_number(next, rank, rested, has_room(entry, loans.count));
         if number != 0 {
             return refused(number, line);
         }
         state.time = time_after(state.time, entry);
         put_assigned(&mut state.assigned, entry);
+        put_held(&mut held, entry);
         put_granted(&mut state.granted, entry);
+        let place = loan_place(loans.count);
+        let loan = loans.entries[place];
+        loans.entries[place] = loan_after(loan, entry);
+        loans.count = count_after(loans.count, entry);
         state.sessions[i] = session_after(session, entry);
         put_active(&mut state.active, entry);
         put_did(&mut state.history, entry);
@@ -96,6 +104,7 @@ fn read_lines(text: &[u8]) -> LoadedState
         rest = &rest[end..];
         line += 1;
     }
+    state.loans = loans;
     LoadedState {
         number: 0,
         place: 0,
@@ -103,17 +112,19 @@ fn read_lines(text: &[u8]) -> LoadedState
     }
 }
 
-// A line after the lines that left this session and these roles: 15 or 16, or 0 where it is good; next is 0 at the first line, and then 1
-// more than the last line's rank.
-fn check_line(entry: Entry, rank: u64, next: u64, session: Session, assigned: &[u32; 64]) -> u64
-    requires { ⌜ Ranged entry × (length (now assigned) ≡ 64) ⌝ }
-    ensures { λ r. ⌜ ((s : State) → sessionAt (s .sessions) (sessionOf entry) ≡ session → s .assigned ≡ now (assigned .entry) → r ≡ lineNumber next rank (rests s entry)) ⌝ }
+// What refuses a line in range: 15, then 16, then 51, or 0 where it is good; next is 0 at the first line, and then 1 more than the last
+// line's rank.
+fn line_number(next: u64, rank: u64, rested: bool, roomy: bool) -> u64
+    ensures { λ r. ⌜ r ≡ lineNumber next rank rested roomy ⌝ }
 {
     if !follows(next, rank) {
         return 15;
     }
-    if !rests(entry, session, assigned) {
+    if !rested {
         return 16;
+    }
+    if !roomy {
+        return 51;
     }
     0
 }
@@ -125,7 +136,7 @@ fn scan_line(text: &[u8]) -> LineRead
     let found = forms::find_likely(&FORMS, &STARTS, likely(text), text);
     let form = found.form;
     let values = found.values;
-    if 7 <= form {
+    if 8 <= form {
         return LineRead::Bad(10);
     }
     if !forms::line_in_range(&FORMS, &STARTS, form, &values) {
@@ -143,11 +154,12 @@ fn likely(text: &[u8]) -> usize {
         return 0;
     }
     match text[1] {
-        b'd' => 6,
+        b'd' => 7,
         b'g' => 2,
+        b'l' => 3,
         b'n' => 0,
-        b'o' => 3,
-        b'p' => 4,
+        b'o' => 4,
+        b'p' => 5,
         _ => form_by_second(text[2]),
     }
 }
@@ -157,7 +169,7 @@ fn form_by_second(letter: u8) -> usize {
     if letter == b's' {
         return 1;
     }
-    5
+    6
 }
 
 fn number_in(answer: LineRead) -> u64

@@ -1,11 +1,13 @@
 // A state as a saved text. Every function writes its part at a place and returns where it ends; bytes past the end of the lent space are
 // left out.
 ghost use mathlib.Core.Path.{_≡_};
+ghost use mathlib.Core.List.{map};
 ghost use Prim.Native.Nat.{_<_};
 ghost use lib.ListN.{length};
 ghost use Rattle.forms.specs.Writing.{Wrote};
+ghost use Rattle.loans.specs.Loans.{running};
 ghost use Rattle.state_text.specs.Entries.{lineText};
-ghost use Rattle.state_text.specs.Saving.{over, placeLines, linesText, savedText, writtenState, lentState};
+ghost use Rattle.state_text.specs.Saving.{over, loanLine, placeLines, linesText, savedText, writtenState, lentState};
 ghost use Rattle.state_text.specs.Parts.{memberLine, memberLines, setLines, rowLines, historyLines, openLines, sessionParts, sessionPartsAt};
 use crate::entries::Entry;
 use crate::entries::FORMS;
@@ -14,6 +16,8 @@ use crate::measuring::saved_length;
 use enforcement::Session;
 use enforcement::State;
 use forms::Written;
+use loans::Loan;
+use loans::Loans;
 use places::Position;
 use sets::word64;
 
@@ -38,8 +42,10 @@ fn write_lines(state: State, out: &mut [u8], at: usize) -> usize
     let after_time = write_line(Entry::Now(state.time), out, at);
     let after_assigned = write_rows(1, &state.assigned, out, after_time);
     let after_granted = write_rows(2, &state.granted, out, after_assigned);
+    let loans = state.loans;
+    let after_loans = write_loans(loans, out, after_granted);
     let sessions = state.sessions;
-    let after_sessions = write_sessions(sessions, &state.active, out, after_granted);
+    let after_sessions = write_sessions(sessions, &state.active, out, after_loans);
     write_history(&state.history, out, after_sessions)
 }
 
@@ -54,6 +60,31 @@ fn write_rows(form: usize, words: &[u32], out: &mut [u8], at: usize) -> usize
         i += 1;
     }
     place
+}
+
+fn write_loans(loans: Loans, out: &mut [u8], at: usize) -> usize
+    ensures { λ r. ⌜ Wrote (now (out .entry)) at (linesText (map loanLine (running loans))) r (now (out .exit)) ⌝ }
+{
+    let count = loans.count;
+    let mut place = at;
+    let mut i: usize = 0;
+    while (i < count) & (i < Loans::MOST) {
+        let loan = loans.entries[i];
+        place = write_line(loan_line(loan), out, place);
+        i += 1;
+    }
+    place
+}
+
+pub(crate) fn loan_line(loan: Loan) -> Entry
+    ensures { λ r. ⌜ r ≡ loanLine loan ⌝ }
+{
+    Entry::Loan(
+        loan.lender as u64,
+        loan.borrower as u64,
+        loan.role as u64,
+        loan.until as u64,
+    )
 }
 
 fn write_sessions(sessions: [Session; 32], active: &[u32; 32], out: &mut [u8], at: usize) -> usize
@@ -75,7 +106,7 @@ fn write_session(i: u64, session: Session, roles: u32, out: &mut [u8], at: usize
     let after_open = write_open(i, session.is_open, session.user as u64, out, at);
     let position = session.position;
     let after_place = write_place(i, position, out, after_open);
-    write_set(5, i, 0, wide(roles), out, after_place)
+    write_set(6, i, 0, wide(roles), out, after_place)
 }
 
 fn write_open(i: u64, is_open: bool, user: u64, out: &mut [u8], at: usize) -> usize
@@ -103,7 +134,7 @@ fn write_history(words: &[u64; 1024], out: &mut [u8], at: usize) -> usize
     let mut place = at;
     let mut i: usize = 0;
     while i < 1024 {
-        place = write_set(6, (i / 32) as u64, (i % 32) as u64, words[i], out, place);
+        place = write_set(7, (i / 32) as u64, (i % 32) as u64, words[i], out, place);
         i += 1;
     }
     place
@@ -149,7 +180,7 @@ fn member_line(form: usize, first: u64, second: u64, j: u64) -> Entry
     match form {
         1 => Entry::Assigned(first, j),
         2 => Entry::Granted(first, j),
-        5 => Entry::Active(first, j),
+        6 => Entry::Active(first, j),
         _ => Entry::Did(first, second, j),
     }
 }

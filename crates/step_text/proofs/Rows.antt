@@ -15,7 +15,7 @@ use borrow.Author.Tests.{eqb-false, ne-eqb, lt-ltb, le-ltb, ltb-true, ltb-false,
 use Rattle.sets.proofs.Booleans.{both, both-true}
 use Rattle.places.specs.Places.{onGrid, pointInRange, positionInRange}
 use Rattle.steps.specs.declared.actions.Action.{Action}
-use Rattle.steps.specs.declared.actions.Action.the-variants.{Malformed, Assign, Withdraw, Grant, Take, Open, Activate, Deactivate, Access, Finish, Close, Move, Lost, Clock}
+use Rattle.steps.specs.declared.actions.Action.the-variants.{Malformed, Assign, Withdraw, Grant, Take, Open, Activate, Deactivate, Access, Finish, Close, Move, Lost, Clock, Lend, Recall}
 use Rattle.steps.specs.Steps.{actionOf}
 use Rattle.enforcement.specs.Causes.{Writes}
 use Rattle.steps.specs.declared.steps.Step.{Step}
@@ -96,6 +96,8 @@ rows step =
     ∷ Move (step .first) (record { x = step .x; y = step .y })
     ∷ Lost (step .first)
     ∷ Clock (step .first)
+    ∷ Lend (step .first) (step .second) (step .third) (step .fourth)
+    ∷ Recall (step .first) (step .second) (step .third)
     ∷ []
 
 abbrev rowOf : Step → Action
@@ -117,27 +119,31 @@ only-row step (Close s) h = rw (h .0, h .1)
 only-row step (Move s point) h = rw (h .0, h .1, h .2, h .3)
 only-row step (Lost s) h = rw (h .0, h .1)
 only-row step (Clock t) h = rw (h .0, h .1)
+only-row step (Lend u v r t) h = rw (h .0, h .1, h .2, h .3, h .4)
+only-row step (Recall u v r) h = rw (h .0, h .1, h .2, h .3)
 
 pub one-row : (step : Step) (action other : Action) → HasNumbers step action → HasNumbers step other → action ≡ other
 one-row step action other h k = sym (only-row step action h) ∙ only-row step other k
 
 -- ---- a form with its values is a row's line
 
-thirteen : (P : ℕ → Type 0) → P 0 → P 1 → P 2 → P 3 → P 4 → P 5 → P 6 → P 7 → P 8 → P 9 → P 10 → P 11 → P 12 → (k : ℕ) → k < 13 → P k
-thirteen P a b c d e f g h i j l m n zero _ = a
-thirteen P a b c d e f g h i j l m n (suc zero) _ = b
-thirteen P a b c d e f g h i j l m n (suc (suc zero)) _ = c
-thirteen P a b c d e f g h i j l m n (suc (suc (suc zero))) _ = d
-thirteen P a b c d e f g h i j l m n (suc (suc (suc (suc zero)))) _ = e
-thirteen P a b c d e f g h i j l m n (suc (suc (suc (suc (suc zero))))) _ = f
-thirteen P a b c d e f g h i j l m n (suc (suc (suc (suc (suc (suc zero)))))) _ = g
-thirteen P a b c d e f g h i j l m n (suc (suc (suc (suc (suc (suc (suc zero))))))) _ = h
-thirteen P a b c d e f g h i j l m n (suc (suc (suc (suc (suc (suc (suc (suc zero)))))))) _ = i
-thirteen P a b c d e f g h i j l m n (suc (suc (suc (suc (suc (suc (suc (suc (suc zero))))))))) _ = j
-thirteen P a b c d e f g h i j l m n (suc (suc (suc (suc (suc (suc (suc (suc (suc (suc zero)))))))))) _ = l
-thirteen P a b c d e f g h i j l m n (suc (suc (suc (suc (suc (suc (suc (suc (suc (suc (suc zero))))))))))) _ = m
-thirteen P a b c d e f g h i j l m n (suc (suc (suc (suc (suc (suc (suc (suc (suc (suc (suc (suc zero)))))))))))) _ = n
-thirteen P a b c d e f g h i j l m n (suc (suc (suc (suc (suc (suc (suc (suc (suc (suc (suc (suc (suc k))))))))))))) less = absurd (omega arith)
+fifteen : (P : ℕ → Type 0) → P 0 → P 1 → P 2 → P 3 → P 4 → P 5 → P 6 → P 7 → P 8 → P 9 → P 10 → P 11 → P 12 → P 13 → P 14 → (k : ℕ) → k < 15 → P k
+fifteen P a b c d e f g h i j l m n o q zero _ = a
+fifteen P a b c d e f g h i j l m n o q (suc zero) _ = b
+fifteen P a b c d e f g h i j l m n o q (suc (suc zero)) _ = c
+fifteen P a b c d e f g h i j l m n o q (suc (suc (suc zero))) _ = d
+fifteen P a b c d e f g h i j l m n o q (suc (suc (suc (suc zero)))) _ = e
+fifteen P a b c d e f g h i j l m n o q (suc (suc (suc (suc (suc zero))))) _ = f
+fifteen P a b c d e f g h i j l m n o q (suc (suc (suc (suc (suc (suc zero)))))) _ = g
+fifteen P a b c d e f g h i j l m n o q (suc (suc (suc (suc (suc (suc (suc zero))))))) _ = h
+fifteen P a b c d e f g h i j l m n o q (suc (suc (suc (suc (suc (suc (suc (suc zero)))))))) _ = i
+fifteen P a b c d e f g h i j l m n o q (suc (suc (suc (suc (suc (suc (suc (suc (suc zero))))))))) _ = j
+fifteen P a b c d e f g h i j l m n o q (suc (suc (suc (suc (suc (suc (suc (suc (suc (suc zero)))))))))) _ = l
+fifteen P a b c d e f g h i j l m n o q (suc (suc (suc (suc (suc (suc (suc (suc (suc (suc (suc zero))))))))))) _ = m
+fifteen P a b c d e f g h i j l m n o q (suc (suc (suc (suc (suc (suc (suc (suc (suc (suc (suc (suc zero)))))))))))) _ = n
+fifteen P a b c d e f g h i j l m n o q (suc (suc (suc (suc (suc (suc (suc (suc (suc (suc (suc (suc (suc zero))))))))))))) _ = o
+fifteen P a b c d e f g h i j l m n o q (suc (suc (suc (suc (suc (suc (suc (suc (suc (suc (suc (suc (suc (suc zero)))))))))))))) _ = q
+fifteen P a b c d e f g h i j l m n o q (suc (suc (suc (suc (suc (suc (suc (suc (suc (suc (suc (suc (suc (suc (suc k))))))))))))))) less = absurd (omega arith)
 
 record Says (k : ℕ) (values : List ℕ) : Type 0 where
   text : fill (formAt stepForms k) values ≡ actionText (rowOf (stepFrom k values))
@@ -150,14 +156,20 @@ one-of a rest h = let p = both (ltb a 10000000000) rest h in (ltb-true a 1000000
 two-of : (a b : ℕ) → (ltb a 10000000000 && (ltb b 10000000000 && true)) ≡ true → (a < 10000000000) × (b < 10000000000)
 two-of a b h = let p = one-of a (ltb b 10000000000 && true) h in (p .0, one-of b true (p .1) .0)
 
+three-of : (a b c : ℕ) → (ltb a 10000000000 && (ltb b 10000000000 && (ltb c 10000000000 && true))) ≡ true → (a < 10000000000) × (b < 10000000000) × (c < 10000000000)
+three-of a b c h =
+    let p = one-of a (ltb b 10000000000 && (ltb c 10000000000 && true)) h in
+    let q = two-of b c (p .1) in
+    (p .0, q .0, q .1)
+
 module _ (a b c d e f : ℕ) where
   abbrev pub six : List ℕ
   six = a ∷ b ∷ c ∷ d ∷ e ∷ f ∷ []
 
-  six-say : (k : ℕ) → k < 13 → valuesFit (formAt stepForms k) six ≡ true → Says k six
+  six-say : (k : ℕ) → k < 15 → valuesFit (formAt stepForms k) six ≡ true → Says k six
   unfolding actionText fill itemText textBy formAt linesIn stepForms valuesFit fitsBy isSlot kindOf lookup
   six-say =
-      thirteen (λ k. valuesFit (formAt stepForms k) six ≡ true → Says k six)
+      fifteen (λ k. valuesFit (formAt stepForms k) six ≡ true → Says k six)
       (λ h. record { text = refl; writable = two-of a b h; numbers = (refl, refl, refl) })
       (λ h. record { text = refl; writable = two-of a b h; numbers = (refl, refl, refl) })
       (λ h. record { text = refl; writable = two-of a b h; numbers = (refl, refl, refl) })
@@ -165,8 +177,7 @@ module _ (a b c d e f : ℕ) where
       (λ h. record { text = refl; writable = two-of a b h; numbers = (refl, refl, refl) })
       (λ h. record { text = refl; writable = two-of a b h; numbers = (refl, refl, refl) })
       (λ h. record { text = refl; writable = two-of a b h; numbers = (refl, refl, refl) })
-      (λ h. let p = one-of a (ltb b 10000000000 && (ltb c 10000000000 && true)) h in let q = two-of b c (p .1) in
-      record { text = refl; writable = (p .0, q .0, q .1); numbers = (refl, refl, refl, refl) })
+      (λ h. record { text = refl; writable = three-of a b c h; numbers = (refl, refl, refl, refl) })
       (λ h. record { text = refl; writable = one-of a true h .0; numbers = (refl, refl) })
       (λ h. record { text = refl; writable = one-of a true h .0; numbers = (refl, refl) })
       (λ h.
@@ -180,6 +191,11 @@ module _ (a b c d e f : ℕ) where
       })
       (λ h. record { text = refl; writable = one-of a true h .0; numbers = (refl, refl) })
       (λ h. record { text = refl; writable = one-of a true h .0; numbers = (refl, refl) })
+      (λ h.
+      let p = one-of a (ltb b 10000000000 && (ltb c 10000000000 && (ltb d 10000000000 && true))) h in
+      let q = three-of b c d (p .1) in
+      record { text = refl; writable = (p .0, q .0, q .1, q .2); numbers = (refl, refl, refl, refl, refl) })
+      (λ h. record { text = refl; writable = three-of a b c h; numbers = (refl, refl, refl, refl) })
 
 six-of : (v : List ℕ) → length v ≡ 6 → v ≡ six (getD v 0 0) (getD v 1 0) (getD v 2 0) (getD v 3 0) (getD v 4 0) (getD v 5 0)
 six-of [] h = absurd (omega arith)
@@ -191,7 +207,7 @@ six-of (a ∷ b ∷ c ∷ d ∷ e ∷ []) h = absurd (omega arith)
 six-of (a ∷ b ∷ c ∷ d ∷ e ∷ f ∷ []) h = refl
 six-of (a ∷ b ∷ c ∷ d ∷ e ∷ f ∷ g ∷ l) h = absurd (omega arith)
 
-values-say : (k : ℕ) (v : List ℕ) → k < 13 → length v ≡ 6 → valuesFit (formAt stepForms k) v ≡ true → Says k v
+values-say : (k : ℕ) (v : List ℕ) → k < 15 → length v ≡ 6 → valuesFit (formAt stepForms k) v ≡ true → Says k v
 values-say k v l s h =
     subst⁻¹ (Says k) (six-of v s)
     (six-say (getD v 0 0) (getD v 1 0) (getD v 2 0) (getD v 3 0) (getD v 4 0) (getD v 5 0) k l (subst (λ (x : List ℕ). valuesFit (formAt stepForms k) x ≡ true) (six-of v s) h))
@@ -199,7 +215,7 @@ values-say k v l s h =
 -- ---- and each row's line is a form with values
 
 abbrev pub formOf : Action → ℕ
-formOf Malformed = 13
+formOf Malformed = 15
 formOf (Assign u r) = 0
 formOf (Withdraw u r) = 1
 formOf (Grant r p) = 2
@@ -213,6 +229,8 @@ formOf (Close s) = 9
 formOf (Move s point) = 10
 formOf (Lost s) = 11
 formOf (Clock t) = 12
+formOf (Lend u v r t) = 13
+formOf (Recall u v r) = 14
 
 abbrev pub valuesOf : Action → List ℕ
 valuesOf Malformed = []
@@ -229,10 +247,12 @@ valuesOf (Close s) = six s 0 0 0 0 0
 valuesOf (Move s point) = six s (signedCode (point .x)) (signedCode (point .y)) 0 0 0
 valuesOf (Lost s) = six s 0 0 0 0 0
 valuesOf (Clock t) = six t 0 0 0 0 0
+valuesOf (Lend u v r t) = six u v r t 0 0
+valuesOf (Recall u v r) = six u v r 0 0 0
 
 -- the form is there, the values fit and are read back, and they say the row
 record FormOf (action : Action) : Type 0 where
-  there : formOf action < 13
+  there : formOf action < 15
   sixValues : length (valuesOf action) ≡ 6
   fits : valuesFit (formAt stepForms (formOf action)) (valuesOf action) ≡ true
   back : sets (replicate 6 0) 0 (valuesIn (formAt stepForms (formOf action)) (valuesOf action)) ≡ valuesOf action
@@ -245,6 +265,9 @@ module _ (a b : ℕ) where
   two-fit : a < 10000000000 → b < 10000000000 → (ltb a 10000000000 && (ltb b 10000000000 && true)) ≡ true
   two-fit h k = rw (lt-ltb a 10000000000 h, lt-ltb b 10000000000 k)
 
+  three-fit : (c : ℕ) → a < 10000000000 → b < 10000000000 → c < 10000000000 → (ltb a 10000000000 && (ltb b 10000000000 && (ltb c 10000000000 && true))) ≡ true
+  three-fit c h k l = rw (lt-ltb a 10000000000 h, lt-ltb b 10000000000 k, lt-ltb c 10000000000 l)
+
 form-of : (action : Action) → Writable action → FormOf action
 unfolding formAt linesIn stepForms valuesFit fitsBy valuesIn isSlot kindOf lookup
 form-of Malformed w = absurd w
@@ -255,8 +278,7 @@ form-of (Take r p) w = record { there = omega arith; sixValues = refl; fits = tw
 form-of (Open s u) w = record { there = omega arith; sixValues = refl; fits = two-fit s u (w .0) (w .1); back = refl; row = refl }
 form-of (Activate s r) w = record { there = omega arith; sixValues = refl; fits = two-fit s r (w .0) (w .1); back = refl; row = refl }
 form-of (Deactivate s r) w = record { there = omega arith; sixValues = refl; fits = two-fit s r (w .0) (w .1); back = refl; row = refl }
-form-of (Access s p o) w =
-    record { there = omega arith; sixValues = refl; fits = rw (lt-ltb s 10000000000 (w .0)) (two-fit p o (w .1) (w .2)); back = refl; row = refl }
+form-of (Access s p o) w = record { there = omega arith; sixValues = refl; fits = three-fit s p o (w .0) (w .1) (w .2); back = refl; row = refl }
 form-of (Finish o) w = record { there = omega arith; sixValues = refl; fits = one-fits o 0 w; back = refl; row = refl }
 form-of (Close s) w = record { there = omega arith; sixValues = refl; fits = one-fits s 0 w; back = refl; row = refl }
 form-of (Move s point) w =
@@ -269,6 +291,9 @@ form-of (Move s point) w =
     }
 form-of (Lost s) w = record { there = omega arith; sixValues = refl; fits = one-fits s 0 w; back = refl; row = refl }
 form-of (Clock t) w = record { there = omega arith; sixValues = refl; fits = one-fits t 0 w; back = refl; row = refl }
+form-of (Lend u v r t) w =
+    record { there = omega arith; sixValues = refl; fits = rw (lt-ltb u 10000000000 (w .0)) (three-fit v r t (w .1) (w .2) (w .3)); back = refl; row = refl }
+form-of (Recall u v r) w = record { there = omega arith; sixValues = refl; fits = three-fit u v r (w .0) (w .1) (w .2); back = refl; row = refl }
 
 -- ---- ranges
 
@@ -299,6 +324,12 @@ writes step (Move s point) = (
 )
 writes step (Lost s) = (λ w. ((w .0, w .1), omega arith), λ w. (w .0 .0, w .0 .1, omega arith))
 writes step (Clock t) = (λ w. ((w .0, w .1), w .2), λ w. (w .0 .0, w .0 .1, w .1))
+writes step (Lend u v r t) = (
+  λ w. ((w .0, w .1, w .2, w .3, w .4), (omega arith, omega arith, omega arith, w .8)),
+  λ w. (w .0 .0, w .0 .1, w .0 .2, w .0 .3, w .0 .4, omega arith, omega arith, omega arith, w .1 .3),
+)
+writes step (Recall u v r) =
+    (λ w. ((w .0, w .1, w .2, w .3), (omega arith, omega arith, omega arith)), λ w. (w .0 .0, w .0 .1, w .0 .2, w .0 .3, omega arith, omega arith, omega arith))
 
 proper : (action : Action) (step : Step) → HasNumbers step action → action ≡ Malformed → ⊥
 proper action step h e = subst (HasNumbers step) e h
@@ -336,7 +367,7 @@ good-row text line good = go (eqb (found stepForms text .form) formCount) refl g
           says .numbers,
         )
 
-after-found : (form : ℕ) (values : List ℕ) (size : ℕ) → form < 13 → lineAfter (record { form = form; values = values; length = size }) ≡ Good (lineFrom form values size)
+after-found : (form : ℕ) (values : List ℕ) (size : ℕ) → form < 15 → lineAfter (record { form = form; values = values; length = size }) ≡ Good (lineFrom form values size)
 unfolding lineAfter
 after-found form values size h = rw (ne-eqb form formCount (λ e. omega arith))
 

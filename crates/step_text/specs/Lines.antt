@@ -29,9 +29,12 @@ stepForms =
     ++ bytes "(move ? _ _)\n"
     ++ bytes "(lost ?)\n"
     ++ bytes "(clock ?)\n"
+    -- 2026-01: "Step `lend u v r t`", "`recall u v r`"
+    ++ bytes "(lend ? ? ? ?)\n"
+    ++ bytes "(recall ? ? ?)\n"
 
 abbrev pub formCount : ℕ
-formCount = 13
+formCount = 15
 
 -- the kind is the form's number; numbers that a kind does not use are not looked at
 abbrev pub stepFrom : ℕ → List ℕ → Step
@@ -41,6 +44,7 @@ stepFrom form values =
       first = getD values 0 0;
       second = getD values 1 0;
       third = getD values 2 0;
+      fourth = getD values 3 0;
       x = signedValue (getD values 1 0);
       y = signedValue (getD values 2 0);
     }

@@ -10,7 +10,7 @@ use lib.IntN.{ℤ, pos, negsuc}
 use Rattle.forms.specs.Numbers.{digitsOf, integerText}
 use Rattle.forms.specs.Tables.{bytes}
 use Rattle.steps.specs.declared.actions.Action.{Action}
-use Rattle.steps.specs.declared.actions.Action.the-variants.{Malformed, Assign, Withdraw, Grant, Take, Open, Activate, Deactivate, Access, Finish, Close, Move, Lost, Clock}
+use Rattle.steps.specs.declared.actions.Action.the-variants.{Malformed, Assign, Withdraw, Grant, Take, Open, Activate, Deactivate, Access, Finish, Close, Move, Lost, Clock, Lend, Recall}
 use Rattle.steps.specs.Steps.{actionOf}
 use Rattle.steps.specs.declared.steps.Step.{Step}
 use Rattle.step_text.specs.Lines.{readStep}
@@ -43,6 +43,9 @@ actionText (Close s) = lineWith "close" (digitsOf s ∷ [])
 actionText (Move s point) = lineWith "move" (digitsOf s ∷ integerText (point .x) ∷ integerText (point .y) ∷ [])
 actionText (Lost s) = lineWith "lost" (digitsOf s ∷ [])
 actionText (Clock t) = lineWith "clock" (digitsOf t ∷ [])
+-- 2026-01: "Step `lend u v r t`", "`recall u v r`"
+actionText (Lend u v r t) = lineWith "lend" (digitsOf u ∷ digitsOf v ∷ digitsOf r ∷ digitsOf t ∷ [])
+actionText (Recall u v r) = lineWith "recall" (digitsOf u ∷ digitsOf v ∷ digitsOf r ∷ [])
 
 -- ---- "at most 10 digits"
 
@@ -69,6 +72,8 @@ Writable (Close s) = TenDigits s
 Writable (Move s point) = TenDigits s × TenDigits (amount (point .x)) × TenDigits (amount (point .y))
 Writable (Lost s) = TenDigits s
 Writable (Clock t) = TenDigits t
+Writable (Lend u v r t) = TenDigits u × TenDigits v × TenDigits r × TenDigits t
+Writable (Recall u v r) = TenDigits u × TenDigits v × TenDigits r
 
 -- ---- a step's kind and numbers; those that a kind does not use are not looked at
 
@@ -87,6 +92,8 @@ HasNumbers step (Close s) = (step .kind ≡ 9) × (step .first ≡ s)
 HasNumbers step (Move s point) = (step .kind ≡ 10) × (step .first ≡ s) × (step .x ≡ point .x) × (step .y ≡ point .y)
 HasNumbers step (Lost s) = (step .kind ≡ 11) × (step .first ≡ s)
 HasNumbers step (Clock t) = (step .kind ≡ 12) × (step .first ≡ t)
+HasNumbers step (Lend u v r t) = (step .kind ≡ 13) × (step .first ≡ u) × (step .second ≡ v) × (step .third ≡ r) × (step .fourth ≡ t)
+HasNumbers step (Recall u v r) = (step .kind ≡ 14) × (step .first ≡ u) × (step .second ≡ v) × (step .third ≡ r)
 
 -- ---- "Users u 0 to 63, roles r 0 to 31, permissions p 0 to 31, sessions s 0 to 31, objects o 0 to 31 .. Time t: .. 0 to 3,155,759,999.
 -- x, y: whole metres on the farm grid, -1,000,000 to 1,000,000."
@@ -106,6 +113,8 @@ ActionInRange (Close s) = s ≤ 31
 ActionInRange (Move s point) = (s ≤ 31) × (amount (point .x) ≤ 1000000) × (amount (point .y) ≤ 1000000)
 ActionInRange (Lost s) = s ≤ 31
 ActionInRange (Clock t) = t ≤ 3155759999
+ActionInRange (Lend u v r t) = (u ≤ 63) × (v ≤ 63) × (r ≤ 31) × (t ≤ 3155759999)
+ActionInRange (Recall u v r) = (u ≤ 63) × (v ≤ 63) × (r ≤ 31)
 
 -- ---- what is read
 

@@ -26,6 +26,7 @@ pub fn read_batch(text: &[u8]) -> BatchRead
         first: 0,
         second: 0,
         third: 0,
+        fourth: 0,
         x: 0,
         y: 0,
     }; 32];

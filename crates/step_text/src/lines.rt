@@ -3,8 +3,8 @@ ghost use mathlib.Core.Path.{_≡_};
 ghost use Rattle.step_text.specs.Lines.{readStep};
 use steps::Step;
 
-// "One form a line", in the order of the table of steps; each mark stands for a number of its kind.
-const FORMS: [u8; 162] = *b"\
+// "One form a line", in the order of the table of steps, lend and recall after them; each mark stands for a number of its kind.
+const FORMS: [u8; 192] = *b"\
 (assign ? ?)\n\
 (withdraw ? ?)\n\
 (grant ? ?)\n\
@@ -17,12 +17,31 @@ const FORMS: [u8; 162] = *b"\
 (close ?)\n\
 (move ? _ _)\n\
 (lost ?)\n\
-(clock ?)\n";
+(clock ?)\n\
+(lend ? ? ? ?)\n\
+(recall ? ? ?)\n";
 
-const FORM_COUNT: usize = 13;
+const FORM_COUNT: usize = 15;
 
 // Where each form starts, and where the last one ends.
-const STARTS: [usize; 14] = [0, 13, 28, 40, 51, 62, 77, 94, 109, 120, 130, 143, 152, 162];
+const STARTS: [usize; 16] = [
+    0,
+    13,
+    28,
+    40,
+    51,
+    62,
+    77,
+    94,
+    109,
+    120,
+    130,
+    143,
+    152,
+    162,
+    177,
+    192,
+];
 
 // A good line: its step, and how many bytes it has.
 pub struct StepLine {
@@ -50,6 +69,7 @@ pub fn read_step(text: &[u8]) -> StepRead
         first: values[0],
         second: values[1],
         third: values[2],
+        fourth: values[3],
         x: forms::signed_value(values[1]),
         y: forms::signed_value(values[2]),
     };
@@ -64,10 +84,10 @@ fn likely_form(text: &[u8]) -> usize {
     let fourth = byte_at(text, 4);
     match byte_at(text, 3) {
         b'a' => first_or(fourth == b'n', 2, 6),
-        b'c' => 7,
+        b'c' => first_or(fourth == b'e', 7, 14),
         b'e' => 4,
         b'k' => 3,
-        b'n' => 8,
+        b'n' => first_or(fourth == b'i', 8, 13),
         b'o' => first_or(fourth == b's', 9, 12),
         b's' => first_or(fourth == b'i', 0, 11),
         b't' => first_or(fourth == b'i', 5, 1),

@@ -6,7 +6,7 @@ use lib.Dec.{eqb, ltb, leb}
 use lib.IntN.{ℤ, pos}
 use Rattle.places.specs.Places.{onGrid}
 use Rattle.steps.specs.declared.actions.Action.{Action}
-use Rattle.steps.specs.declared.actions.Action.the-variants.{Malformed, Assign, Withdraw, Grant, Take, Open, Activate, Deactivate, Access, Finish, Close, Move, Lost, Clock}
+use Rattle.steps.specs.declared.actions.Action.the-variants.{Malformed, Assign, Withdraw, Grant, Take, Open, Activate, Deactivate, Access, Finish, Close, Move, Lost, Clock, Lend, Recall}
 use Rattle.steps.specs.declared.steps.Step.{Step}
 
 -- "Time t: .. 0 to 3,155,759,999"
@@ -21,7 +21,7 @@ ranged inRange action = cond inRange action Malformed
 abbrev pub moveOf : ℕ → ℤ → ℤ → Action
 moveOf i x y = ranged (ltb i 32 && (onGrid x && onGrid y)) (Move i (record { x = x; y = y }))
 
--- "Users u 0 to 63, roles r 0 to 31, permissions p 0 to 31, sessions s 0 to 31, objects o 0 to 31"; kinds 0 to 12 in the table's
+-- "Users u 0 to 63, roles r 0 to 31, permissions p 0 to 31, sessions s 0 to 31, objects o 0 to 31"; kinds 0 to 14 in the table's
 -- order; numbers that a kind does not use are not looked at
 unfoldable pub actionOf : Step → Action
 actionOf step =
@@ -37,15 +37,17 @@ actionOf step =
     (cond (eqb (step .kind) 9) (ranged (ltb (step .first) 32) (Close (step .first)))
     (cond (eqb (step .kind) 10) (moveOf (step .first) (step .x) (step .y))
     (cond (eqb (step .kind) 11) (ranged (ltb (step .first) 32) (Lost (step .first)))
-    (cond (eqb (step .kind) 12) (ranged (isTime (step .first)) (Clock (step .first))) Malformed))))))))))))
+    (cond (eqb (step .kind) 12) (ranged (isTime (step .first)) (Clock (step .first)))
+    (cond (eqb (step .kind) 13) (ranged (ltb (step .first) 64 && (ltb (step .second) 64 && (ltb (step .third) 32 && isTime (step .fourth)))) (Lend (step .first) (step .second) (step .third) (step .fourth)))
+    (cond (eqb (step .kind) 14) (ranged (ltb (step .first) 64 && (ltb (step .second) 64 && ltb (step .third) 32)) (Recall (step .first) (step .second) (step .third))) Malformed))))))))))))))
 
 -- ---- a step by its kind's number: one that has no coordinates, and a move
 
-abbrev pub numbered : ℕ → ℕ → ℕ → ℕ → Step
-numbered kind first second third = record { kind = kind; first = first; second = second; third = third; x = pos 0; y = pos 0 }
+abbrev pub numbered : ℕ → ℕ → ℕ → ℕ → ℕ → Step
+numbered kind first second third fourth = record { kind = kind; first = first; second = second; third = third; fourth = fourth; x = pos 0; y = pos 0 }
 
 abbrev pub moved : ℕ → ℤ → ℤ → Step
-moved session x y = record { kind = 10; first = session; second = 0; third = 0; x = x; y = y }
+moved session x y = record { kind = 10; first = session; second = 0; third = 0; fourth = 0; x = x; y = y }
 
 -- "The last three rows (close, move and lost, clock) are events."
 abbrev pub isEvent : Action → Bool
@@ -63,3 +65,6 @@ isEvent (Close i) = true
 isEvent (Move i point) = true
 isEvent (Lost i) = true
 isEvent (Clock t) = true
+isEvent (Lend u v r t) = false
+-- 2026-01: "recall and clock are events"
+isEvent (Recall u v r) = true

@@ -53,4 +53,15 @@ pub enum Action {
     Clock {
         time: u64,
     },
+    Lend {
+        lender: usize,
+        borrower: usize,
+        role: usize,
+        until: u64,
+    },
+    Recall {
+        lender: usize,
+        borrower: usize,
+        role: usize,
+    },
 }

@@ -6,7 +6,7 @@ pub enum Answer {
     Granted { selected: usize, ended: usize },
     // 30
     Broken { rule: usize, selected: usize },
-    // 20 to 28 and 40
+    // 20 to 28, 40 and 50 to 52
     Refused { number: usize },
 }
 

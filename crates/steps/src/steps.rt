@@ -12,6 +12,7 @@ pub struct Step {
     pub first: u64,
     pub second: u64,
     pub third: u64,
+    pub fourth: u64,
     pub x: i64,
     pub y: i64,
 }
@@ -66,6 +67,12 @@ impl Step {
 
     // clock t
     pub const CLOCK: u64 = 12;
+
+    // lend u v r t
+    pub const LEND: u64 = 13;
+
+    // recall u v r
+    pub const RECALL: u64 = 14;
 
     // The step with its numbers in range, or malformed.
     pub fn action(self) -> Action
@@ -140,6 +147,25 @@ impl Step {
             12 => ranged(
                 self.first <= Term::LAST_TIME,
                 Action::Clock { time: self.first },
+            ),
+            13 => ranged(
+                (first < Step::USERS)
+                    & ((second < Step::USERS)
+                        & ((third < Step::ROLES) & (self.fourth <= Term::LAST_TIME))),
+                Action::Lend {
+                    lender: first,
+                    borrower: second,
+                    role: third,
+                    until: self.fourth,
+                },
+            ),
+            14 => ranged(
+                (first < Step::USERS) & ((second < Step::USERS) & (third < Step::ROLES)),
+                Action::Recall {
+                    lender: first,
+                    borrower: second,
+                    role: third,
+                },
             ),
             _ => Action::Malformed,
         }

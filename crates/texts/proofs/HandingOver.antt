@@ -26,7 +26,7 @@ use Rattle.rule_text.proofs.Back as ruleBack
 use Rattle.state_text.specs.Reading.{Loading, loaded, refused, readState}
 use Rattle.state_text.specs.Saving.{savedText}
 use Rattle.state_text.proofs.RoundTrips.{write-back, read-accepted, good-back}
-use Rattle.state_text.proofs.Same.{unequal}
+use Rattle.state_text.proofs.Rows.{unequal}
 use Rattle.step_text.specs.Lines.{StepsRead, steps, bad, readSteps}
 use Rattle.step_text.specs.Answers.{answerText, answersText}
 use Rattle.step_text.proofs.Causes.{steps-joined}

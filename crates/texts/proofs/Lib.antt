@@ -6,6 +6,9 @@ pub mod Causes
 pub mod SavedRunning
 pub mod SavedCauses
 pub mod HandingOver
+pub mod LineSums
+pub mod AssignedSizes
+pub mod LoanSizes
 pub mod StateSizes
 pub mod Needed
 pub mod RuleSizes

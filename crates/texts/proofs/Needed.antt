@@ -21,7 +21,7 @@ use Rattle.rule_text.proofs.Back.{write-back}
 use Rattle.state_text.specs.Reading.{Loading, loaded, refused, readState}
 use Rattle.state_text.specs.Saving.{savedText}
 use Rattle.state_text.proofs.RoundTrips as state
-use Rattle.state_text.proofs.Same.{unequal}
+use Rattle.state_text.proofs.Rows.{unequal}
 use Rattle.step_text.specs.Answers.{answersText}
 use Rattle.texts.specs.SavedRuns.{refusedIn, stateUnder, rulesFirst, loadTexts, rulesIn, refusedReport, writtenReport, outputReport, rulesCopyReport, savedReport, copyReport, SavedOutcome, savedOutcome, answersOf, stateOf, runReport}
 use Rattle.texts.specs.Causes.{RunsSaved, RunRefused, short-answers, short-state}

@@ -20,7 +20,7 @@ use Rattle.enforcement.specs.States.{fresh, ruleHolds}
 use Rattle.enforcement.specs.Plain.{obeys}
 use Rattle.enforcement.specs.Gate.{runOf}
 use Rattle.enforcement.specs.Runs.{lastState}
-use Rattle.enforcement.specs.Reached.{Accepted}
+use Rattle.enforcement.specs.Reached.{Good}
 use Rattle.enforcement.specs.declared.states.State.{State}
 use Rattle.steps.specs.declared.steps.Step.{Step}
 use Rattle.rule_text.specs.Lines.{listText, filler}
@@ -35,17 +35,17 @@ use Rattle.state_text.specs.Entries.{lineText}
 use Rattle.state_text.specs.Saving.{linesOf, linesText, savedText}
 use Rattle.state_text.specs.declared.entries.Entry.the-variants.{Now}
 use Rattle.state_text.specs.Causes.{GoodText}
-use Rattle.state_text.proofs.OwnCauses.{refused-10, refused-11, refused-15, refused-16, refused-17, read-good}
-use Rattle.state_text.proofs.Refusals.{read-whole, LineCause, noForm, outOfRange, outOfOrder, unrested, OneBad, Comes, from-comes}
+use Rattle.state_text.proofs.OwnCauses.{refused-10, refused-11, refused-15, refused-16, refused-51, refused-17, read-good}
+use Rattle.state_text.proofs.Refusals.{read-whole, LineCause, noForm, outOfRange, outOfOrder, unrested, thirtyThird, OneBad, Comes, from-comes}
 use Rattle.state_text.proofs.RoundTrips.{read-accepted}
-use Rattle.state_text.proofs.Same.{unequal}
+use Rattle.state_text.proofs.Rows.{unequal}
 use Rattle.state_text.proofs.Values.{line-some}
 use Rattle.step_text.specs.Lines.{StepsRead, steps, bad, readSteps}
 use Rattle.step_text.specs.Answers.{answersText}
 use Rattle.step_text.proofs.Causes.{steps-10}
 use Rattle.step_text.proofs.Sizes.{Sized, sized, answers-short}
 use Rattle.texts.specs.SavedRuns.{holding, refusedIn, stateUnder, rulesFirst, loadTexts, refusedReport, writtenReport, SavedOutcome, ranFrom, refusedAt, stepsUnder, savedOutcome, answersOf, stateOf, fitted, runReport}
-use Rattle.texts.specs.Causes.{RulesThen, StateCause, state-no-form, state-out-of-range, state-out-of-order, state-unrested, state-breaks, TextsHold, RunsSaved, RunWritten, RunRefused, long-steps, bad-rules, bad-state, bad-steps, short-answers, short-state}
+use Rattle.texts.specs.Causes.{RulesThen, StateCause, state-no-form, state-out-of-range, state-out-of-order, state-unrested, state-thirty-third, state-breaks, TextsHold, RunsSaved, RunWritten, RunRefused, long-steps, bad-rules, bad-state, bad-steps, short-answers, short-state}
 use Rattle.texts.specs.declared.saved_runs.Text.{Text}
 use Rattle.texts.specs.declared.saved_runs.Text.the-variants as Text
 use Rattle.texts.specs.declared.saved_runs.Report.{Report}
@@ -93,18 +93,19 @@ lowest-some test m (rule ∷ rules) n h e = go (test rule) (lowest-some test (su
     go true later e = later e
     go false later e = let same : m ≡ n = cc in omega arith
 
-line-numbers : (text : List ℕ) (number place : ℕ) → readLines text ≡ refused number place → (number ≡ 10) ⊎ ((number ≡ 11) ⊎ ((number ≡ 15) ⊎ (number ≡ 16)))
+line-numbers : (text : List ℕ) (number place : ℕ) → readLines text ≡ refused number place → (number ≡ 10) ⊎ ((number ≡ 11) ⊎ ((number ≡ 15) ⊎ ((number ≡ 16) ⊎ (number ≡ 51))))
 unfolding readLines
 line-numbers [] number place e = inl cc
 line-numbers (c ∷ t) number place e =
     let one : OneBad 1 0 fresh (c ∷ t) number place = subst (Comes 1 0 fresh (c ∷ t)) (sym (read-whole (c ∷ t) (omega arith)) ∙ e) (from-comes (length (c ∷ t)) 1 0 fresh (c ∷ t) (omega arith)) in
     go _ _ _ (one .cause)
   where
-    go : (next : ℕ) (s : State) (rest : List ℕ) → LineCause next s rest number → (number ≡ 10) ⊎ ((number ≡ 11) ⊎ ((number ≡ 15) ⊎ (number ≡ 16)))
+    go : (next : ℕ) (s : State) (rest : List ℕ) → LineCause next s rest number → (number ≡ 10) ⊎ ((number ≡ 11) ⊎ ((number ≡ 15) ⊎ ((number ≡ 16) ⊎ (number ≡ 51))))
     go next s rest (noForm q h) = inl q
     go next s rest (outOfRange q h) = inr (inl q)
     go next s rest (outOfOrder q h) = inr (inr (inl q))
-    go next s rest (unrested q h) = inr (inr (inr q))
+    go next s rest (unrested q h) = inr (inr (inr (inl q)))
+    go next s rest (thirtyThird q h) = inr (inr (inr (inr q)))
 
 module _ (read : List Rule) (few : length read ≤ 128) (accepted : every ruleAccepted read ≡ true) (saved : List ℕ) where
   abbrev list : RuleList
@@ -121,6 +122,7 @@ module _ (read : List Rule) (few : length read ≤ 128) (accepted : every ruleAc
   state-caused (state-out-of-range n b) = refused-11 list saved listed n .1 b
   state-caused (state-out-of-order n b) = refused-15 list saved listed n .1 b
   state-caused (state-unrested n b) = refused-16 list saved listed n .1 b
+  state-caused (state-thirty-third n b) = refused-51 list saved listed n .1 b
   state-caused (state-breaks s n good less fails holds) =
       refused-17 list saved listed filler n .1 (s, good, rw same-rules less, rw same-rules fails, λ k l. rw same-rules (holds k l))
 
@@ -129,11 +131,12 @@ module _ (read : List Rule) (few : length read ≤ 128) (accepted : every ruleAc
       let why = refused-17 list saved listed filler n .0 e in
       state-breaks (why .0) n (why .1) (rw same-rules at (why .2)) (rw same-rules at (why .3)) (λ k l. rw same-rules at (why .4 k l))
 
-  line-says : (number place : ℕ) → readState list saved ≡ refused number place → (number ≡ 10) ⊎ ((number ≡ 11) ⊎ ((number ≡ 15) ⊎ (number ≡ 16))) → StateCause read saved number place
+  line-says : (number place : ℕ) → readState list saved ≡ refused number place → (number ≡ 10) ⊎ ((number ≡ 11) ⊎ ((number ≡ 15) ⊎ ((number ≡ 16) ⊎ (number ≡ 51)))) → StateCause read saved number place
   line-says number place e (inl q) = rw q (state-no-form place (refused-10 list saved listed place .0 (rw q at e)))
   line-says number place e (inr (inl q)) = rw q (state-out-of-range place (refused-11 list saved listed place .0 (rw q at e)))
   line-says number place e (inr (inr (inl q))) = rw q (state-out-of-order place (refused-15 list saved listed place .0 (rw q at e)))
-  line-says number place e (inr (inr (inr q))) = rw q (state-unrested place (refused-16 list saved listed place .0 (rw q at e)))
+  line-says number place e (inr (inr (inr (inl q)))) = rw q (state-unrested place (refused-16 list saved listed place .0 (rw q at e)))
+  line-says number place e (inr (inr (inr (inr q)))) = rw q (state-thirty-third place (refused-51 list saved listed place .0 (rw q at e)))
 
   state-says : (number place : ℕ) → readState list saved ≡ refused number place → StateCause read saved number place
   unfolding readState
@@ -152,7 +155,7 @@ module _ (read : List Rule) (few : length read ≤ 128) (accepted : every ruleAc
       by-lines (loaded s) q h = by-lowest s (lowest (λ rule. ruleHolds rule s) 1 (rulesOf list)) refl h
       by-lines (refused c p) q h =
           let same : c ≡ number = cc in
-          line-says number place e (subst (λ (m : ℕ). (m ≡ 10) ⊎ ((m ≡ 11) ⊎ ((m ≡ 15) ⊎ (m ≡ 16)))) same (line-numbers saved c p q))
+          line-says number place e (subst (λ (m : ℕ). (m ≡ 10) ⊎ ((m ≡ 11) ⊎ ((m ≡ 15) ⊎ ((m ≡ 16) ⊎ (m ≡ 51))))) same (line-numbers saved c p q))
 
   state-held : (s : State) → (readState list saved ≡ loaded s) ↔ (GoodText saved s × (obeys read s ≡ true))
   state-held s = (λ e. (let good = read-good list saved listed s .0 e in (good .0, rw same-rules at (good .1))), λ h. read-good list saved listed s .1 (h .0, rw same-rules (h .1)))
@@ -162,6 +165,7 @@ state-some (state-no-form n b) = omega arith
 state-some (state-out-of-range n b) = omega arith
 state-some (state-out-of-order n b) = omega arith
 state-some (state-unrested n b) = omega arith
+state-some (state-thirty-third n b) = omega arith
 state-some (state-breaks s n good less fails holds) = omega arith
 
 front-some : (x y : List ℕ) → 0 < length x → 0 < length (x ++ y)
@@ -335,16 +339,16 @@ module _ (rules saved text : List ℕ) where
 
   -- ---- "with 131,072 bytes of room never 18"
 
-  -- what the steps start from is not refused by 40
-  pub start-accepted : {list : RuleList} {s : State} {given : List Step} → RunsSaved rules saved text list s given → Accepted s
-  start-accepted {list} {s} {given} r =
+  -- what the steps start from is good under the rules that were read
+  pub start-good : {list : RuleList} {s : State} {given : List Step} (r : RunsSaved rules saved text list s given) → Good (ruleText.listOf (r .read)) s
+  start-good {list} {s} {given} r =
       let then = r .texts .all-rules in
-      read-accepted (ruleText.listOf (r .read)) saved s (state-held (r .read) (then .few) (then .accepted) saved s .1 (r .texts .all-lines, r .texts .all-hold)) .accepted
+      read-accepted (ruleText.listOf (r .read)) saved s (state-held (r .read) (then .few) (then .accepted) saved s .1 (r .texts .all-lines, r .texts .all-hold))
 
   ran-short : (list : RuleList) (s : State) (given : List Step) → RunsSaved rules saved text list s given → length (answersText (runOf list s given)) ≤ 131072
   ran-short list s given r =
       let lines : Sized 1 text (steps given) = subst (Sized 1 text) (r .all-steps) (sized text) in
-      omega (arith, answers-short list s given (start-accepted r), lines, r .short)
+      omega (arith, answers-short list s given (start-good r .accepted), lines, r .short)
 
   -- the answers to steps over a saved state have at most 131,072 bytes
   pub answers-most : length (answersOf (savedOutcome rules saved text)) ≤ 131072

@@ -17,11 +17,11 @@ use Rattle.steps.specs.Lowest.{lowest}
 use Rattle.enforcement.specs.States.{fresh, ruleHolds, stateAccepted}
 use Rattle.enforcement.specs.Gate.{stepOf, runOf}
 use Rattle.enforcement.specs.Runs.{lastState}
-use Rattle.enforcement.specs.Reached.{Accepted}
+use Rattle.enforcement.specs.Reached.{Accepted, Lending}
 use Rattle.enforcement.specs.declared.states.State.{State}
 use Rattle.steps.specs.declared.steps.Step.{Step}
 use Rattle.enforcement.specs.declared.states.Next.{Next}
-use Rattle.enforcement.proofs.Reaching.{Good, step-accepted}
+use Rattle.enforcement.proofs.Reaching.{Good, step-accepted, step-lending}
 use Rattle.rule_text.specs.Reading as ruleText
 use Rattle.rule_text.specs.Writing.{textOf, writtenRules, lentAfterRules}
 use Rattle.rule_text.specs.declared.reading.LoadedRules.{LoadedRules}
@@ -33,7 +33,7 @@ use Rattle.state_text.specs.Saving.{savedText, writtenState, lentState}
 use Rattle.state_text.specs.declared.reading.LoadedState.{LoadedState}
 use Rattle.state_text.proofs.OwnCauses.{lines-number}
 use Rattle.state_text.proofs.RoundTrips as state
-use Rattle.state_text.proofs.Same.{unequal}
+use Rattle.state_text.proofs.Rows.{unequal}
 use Rattle.state_text.proofs.WritingCauses.{written-length, lent-written, lent-refused}
 use Rattle.step_text.specs.Lines.{StepsRead, steps, bad, readSteps, badLine}
 use Rattle.step_text.specs.Answers.{answersText}
@@ -310,6 +310,13 @@ pub last-accepted : (list : RuleList) (s : State) (read : List Step) → Accepte
 unfolding lastState runOf
 last-accepted list s [] accepted = accepted
 last-accepted list s (step ∷ read) accepted = last-accepted list (stepOf list s step .state) read (step-accepted list s step accepted)
+
+-- and its loans run as they were lent, where they did at the start
+pub last-lending : (list : RuleList) (s : State) (read : List Step) → Accepted s → Lending s → Lending (lastState s (runOf list s read))
+unfolding lastState runOf
+last-lending list s [] accepted lending = lending
+last-lending list s (step ∷ read) accepted lending =
+    last-lending list (stepOf list s step .state) read (step-accepted list s step accepted) (step-lending list s step accepted lending)
 
 -- where every line is a step: the steps, what comes of the lines, and how long the answers are
 record Steps (list : RuleList) (s : State) (text : List ℕ) : Type 0 where

@@ -1,11 +1,13 @@
--- A saved state has at most 997,501 bytes, and one state has as many. Assumes nothing.
+-- A saved state has at most 997,821 bytes, and one state has as many. Assumes nothing.
 use mathlib.Core.Path.{_≡_, refl, sym, ap, _∙_, subst}
-use mathlib.Core.Bool.{Bool, true, false, cond}
-use mathlib.Core.List.{List, [], _∷_, _++_}
-use Prim.Native.Nat.{ℕ, zero, suc, _+_, _-_, _*_, _/_, _%_, _≤_, _<_}
-use native.Mathlib.Nat.{suc-mul, mul-add}
+use mathlib.Core.Bool.{Bool, true, false, _&&_}
+use mathlib.Core.Logic.{⊎-elim}
+use mathlib.Core.List.{List, [], _∷_, _++_, map, List·Memᴰ, List·Memᴰ·not-nil, List·Memᴰ·append-cases, List·Memᴰ·eq-of-singleton}
+use Prim.Native.Nat.{ℕ, zero, suc, _+_, _-_, _*_, _≤_, _<_}
+use native.Mathlib.Nat.{le-trans, min-le-left}
 use native.Mathlib.Omega.{arith}
-use lib.ListN.{length, getD, replicate, getD-replicate, length-replicate, length-append}
+use lib.ListN.{length, getD, set, replicate, getD-replicate, length-replicate, length-set, length-take}
+use lib.Seq.{getD-set-same, getD-set-other}
 use lib.Dec.{ltb, leb}
 use lib.IntN.{ℤ, pos, negsuc}
 use borrow.Author.Tests.{lt-ltb, le-ltb, ltb-true, ltb-false, lt-leb, leb-true}
@@ -16,126 +18,98 @@ use Rattle.sets.proofs.Members.{member-empty}
 use Rattle.places.specs.Places.{onGrid, pointInRange, positionInRange}
 use Rattle.places.specs.declared.Position.{Position}
 use Rattle.places.specs.declared.Position.the-variants.{Unknown, Known}
-use Rattle.rules.specs.Families.{wordAt, sessionAt, permissionsOf, usersWho}
+use Rattle.rules.specs.Families.{wordAt, hasRole, sessionAt, permissionsOf, usersWho}
 use Rattle.rules.specs.Acceptance.{every, listAccepted}
 use Rattle.rules.specs.declared.families.Rule.{Rule}
 use Rattle.rules.specs.declared.sessions.Session.{Session}
-use Rattle.enforcement.specs.States.{assignedRole, holdsRole, carries, isOpen, userOf, positionOf, activeRole, did, sessionAccepted, stateAccepted}
+use Rattle.steps.specs.Steps.{isTime}
+use Rattle.loans.specs.Loans.{key, loanInRange, acceptedFrom, loansAccepted, stored}
+use Rattle.loans.specs.declared.Loan.{Loan}
+use Rattle.loans.proofs.Holding.{held-assigned}
+use Rattle.loans.proofs.Storing.{length-stored, running-stored}
+use Rattle.enforcement.specs.States.{assignedRole, loansOf, holdsRole, carries, isOpen, userOf, positionOf, activeRole, did, sessionAccepted, stateAccepted}
 use Rattle.enforcement.specs.Plain.{obeys}
 use Rattle.enforcement.specs.Gate.{runOf}
 use Rattle.enforcement.specs.Runs.{lastState}
-use Rattle.enforcement.specs.Reached.{Typed, Held}
+use Rattle.enforcement.specs.Reached.{Typed, Held, Lending, Good}
 use Rattle.enforcement.specs.declared.states.State.{State}
-use Rattle.enforcement.proofs.Reaching.{Good}
 use Rattle.forms.specs.Numbers.{digitsOf, digitsWithin, signedOf, signedCode}
 use Rattle.forms.proofs.Puts.{digits-length}
 use Rattle.rule_text.specs.Lines.{listText}
 use Rattle.rule_text.specs.Reading.{listOf}
 use Rattle.rule_text.proofs.Slots.{rules-of-list, list-accepted}
 use Rattle.state_text.specs.Entries.{lineText}
-use Rattle.state_text.specs.Saving.{over, only, placeLines, sessionLines, linesOf, linesText, savedText}
+use Rattle.state_text.specs.Saving.{over, only, loanLine, placeLines, sessionLines, linesOf, savedText}
 use Rattle.state_text.specs.Parts.{width}
 use Rattle.state_text.specs.declared.entries.Entry.{Entry}
 use Rattle.state_text.specs.declared.entries.Entry.the-variants.{Now, Assigned, Granted, Open, Place, Active, Did}
-use Rattle.state_text.proofs.Rows.{over-zero, over-suc}
-use Rattle.state_text.proofs.JoinedLines.{text-append, text-none, text-one}
-use Rattle.state_text.proofs.LineSizes.{digits-width, width-most, now-bytes, place-bytes, assigned-size, granted-size, open-size, active-size, did-size}
+use Rattle.state_text.proofs.JoinedLines.{text-none, text-one}
+use Rattle.state_text.proofs.LineSizes.{digits-width, width-most, now-bytes, place-bytes, assigned-size, granted-size, loan-size, open-size, active-size, did-size}
 use Rattle.state_text.proofs.Keeping.{time-accepted, open-ranged, position-ranged}
 use Rattle.state_text.proofs.RoundTrips.{good-back}
-use Rattle.texts.specs.Sizes.{farthest, fullest}
+use Rattle.texts.specs.Sizes.{farthest, longestLoan, longestLoans, fullest}
 use Rattle.texts.specs.SavedRuns.{holding, stateUnder, loadTexts, refusedReport, savedReport, copyReport}
 use Rattle.texts.specs.Causes.{RulesThen, RunRefused, short-state}
 use Rattle.texts.specs.declared.saved_runs.Text.the-variants as Text
-use Rattle.texts.proofs.SavedRunning.{last-accepted}
-use Rattle.texts.proofs.SavedCauses.{load-state, start-accepted}
-
--- ---- the digits of the numbers below n
-
-unfoldable widths : ℕ → ℕ
-widths zero = 0
-widths (suc n) = widths n + width n
-
-widths-32 : widths 32 ≡ 54
-unfolding widths width
-widths-32 = refl
-
-widths-64 : widths 64 ≡ 118
-unfolding widths width
-widths-64 = refl
+use Rattle.texts.proofs.LineSums.{bytesOf, bytes-append, widths-32, widths-64, Summing, at-most, exactly, to, over-sum, joined, only-most, over-longer}
+use Rattle.texts.proofs.AssignedSizes.{userLines, assignedLines, user-sum, assigned-sum}
+use Rattle.texts.proofs.LoanSizes.{Borrowing, lent-most}
+use Rattle.texts.proofs.SavedRunning.{last-accepted, last-lending}
+use Rattle.texts.proofs.SavedCauses.{load-state, start-good}
 
 -- ---- the bytes of all lines, at most or exactly
 
-module _ (R : ℕ → ℕ → Type 0) (none : R 0 0) (add : (a b c d : ℕ) → R a b → R c d → R (a + c) (b + d)) where
-  to : {a b c : ℕ} → b ≡ c → R a b → R a c
-  to {a} e h = subst (R a) e h
-
-  over-sum : (n c m : ℕ) (f : ℕ → List Entry) → ((i : ℕ) → i < n → R (length (linesText (f i))) (c + m * width i)) → R (length (linesText (over n f))) (n * c + m * widths n)
-  unfolding widths
-  over-sum zero c m f h =
-      let e : 0 ≡ 0 * c + m * 0 = omega arith in
-      rw (over-zero f, text-none) (to e none)
-  over-sum (suc n) c m f h =
-      let e : n * c + m * widths n + (c + m * width n) ≡ suc n * c + m * (widths n + width n) = omega (arith, suc-mul n c, mul-add m (widths n) (width n)) in
-      rw (over-suc n f, text-append (over n f) (f n), length-append (linesText (over n f)) (linesText (f n))) (to e (add _ _ _ _ (over-sum n c m f (λ i l. h i (omega arith))) (h n (omega arith))))
-
-  joined : (a b : List Entry) {m n : ℕ} → R (length (linesText a)) m → R (length (linesText b)) n → R (length (linesText (a ++ b))) (m + n)
-  joined a b h k = rw (text-append a b, length-append (linesText a) (linesText b)) (add _ _ _ _ h k)
-
+module _ (R : ℕ → ℕ → Type 0) (summing : Summing R) where
   record LinesSized (s : State) : Type 0 where
-    now : R (length (linesText (Now (s .time) ∷ []))) 17
-    assigned : (u r : ℕ) → u < 64 → r < 32 → R (length (linesText (only (assignedRole s u r) (Assigned u r)))) (13 + (width u + width r))
-    granted : (r p : ℕ) → r < 32 → p < 32 → R (length (linesText (only (carries s r p) (Granted r p)))) (12 + (width r + width p))
-    opened : (i : ℕ) → i < 32 → R (length (linesText (only (isOpen s i) (Open i (userOf s i))))) (11 + width i)
-    placed : (i : ℕ) → i < 32 → R (length (linesText (placeLines i (positionOf s i)))) (27 + width i)
-    activated : (i r : ℕ) → i < 32 → r < 32 → R (length (linesText (only (activeRole s i r) (Active i r)))) (11 + (width i + width r))
-    done : (o p u : ℕ) → o < 32 → p < 32 → u < 64 → R (length (linesText (only (did s o p u) (Did o p u)))) (9 + (width o + (width p + width u)))
+    now : R (bytesOf (Now (s .time) ∷ [])) 17
+    lent : R (bytesOf (assignedLines (assignedRole s)) + bytesOf (map loanLine (loansOf s))) 34176
+    granted : (r p : ℕ) → r < 32 → p < 32 → R (bytesOf (only (carries s r p) (Granted r p))) (12 + (width r + width p))
+    opened : (i : ℕ) → i < 32 → R (bytesOf (only (isOpen s i) (Open i (userOf s i)))) (11 + width i)
+    placed : (i : ℕ) → i < 32 → R (bytesOf (placeLines i (positionOf s i))) (27 + width i)
+    activated : (i r : ℕ) → i < 32 → r < 32 → R (bytesOf (only (activeRole s i r) (Active i r))) (11 + (width i + width r))
+    done : (o p u : ℕ) → o < 32 → p < 32 → u < 64 → R (bytesOf (only (did s o p u) (Did o p u))) (9 + (width o + (width p + width u)))
 
   module _ (s : State) (lines : LinesSized s) where
-    all-assigned : R (length (linesText (over 64 (λ u. over 32 (λ r. only (assignedRole s u r) (Assigned u r)))))) 33856
-    all-assigned =
-        to (omega (arith, widths-64))
-        (over-sum 64 470 32 (λ u. over 32 (λ r. only (assignedRole s u r) (Assigned u r)))
-        (λ u hu. to (omega (arith, widths-32))
-        (over-sum 32 (13 + width u) 1 (λ r. only (assignedRole s u r) (Assigned u r)) (λ r hr. to (omega arith) (lines .assigned u r hu hr)))))
-
-    all-granted : R (length (linesText (over 32 (λ r. over 32 (λ p. only (carries s r p) (Granted r p)))))) 15744
+    all-granted : R (bytesOf (over 32 (λ r. over 32 (λ p. only (carries s r p) (Granted r p))))) 15744
     all-granted =
-        to (omega (arith, widths-32))
-        (over-sum 32 438 32 (λ r. over 32 (λ p. only (carries s r p) (Granted r p)))
-        (λ r hr. to (omega (arith, widths-32))
-        (over-sum 32 (12 + width r) 1 (λ p. only (carries s r p) (Granted r p)) (λ p hp. to (omega arith) (lines .granted r p hr hp)))))
+        to R summing (omega (arith, widths-32))
+        (over-sum R summing 32 438 32 (λ r. over 32 (λ p. only (carries s r p) (Granted r p)))
+        (λ r hr. to R summing (omega (arith, widths-32))
+        (over-sum R summing 32 (12 + width r) 1 (λ p. only (carries s r p) (Granted r p)) (λ p hp. to R summing (omega arith) (lines .granted r p hr hp)))))
 
-    one-session : (i : ℕ) → i < 32 → R (length (linesText (sessionLines s i))) (444 + 34 * width i)
+    one-session : (i : ℕ) → i < 32 → R (bytesOf (sessionLines s i)) (444 + 34 * width i)
     unfolding sessionLines
     one-session i h =
-        to (omega (arith, widths-32))
-        (joined (only (isOpen s i) (Open i (userOf s i))) _ (lines .opened i h)
-        (joined (placeLines i (positionOf s i)) _ (lines .placed i h)
-        (over-sum 32 (11 + width i) 1 (λ r. only (activeRole s i r) (Active i r)) (λ r hr. to (omega arith) (lines .activated i r h hr)))))
+        to R summing (omega (arith, widths-32))
+        (joined R summing (only (isOpen s i) (Open i (userOf s i))) _ (lines .opened i h)
+        (joined R summing (placeLines i (positionOf s i)) _ (lines .placed i h)
+        (over-sum R summing 32 (11 + width i) 1 (λ r. only (activeRole s i r) (Active i r)) (λ r hr. to R summing (omega arith) (lines .activated i r h hr)))))
 
-    all-done : R (length (linesText (over 32 (λ o. over 32 (λ p. over 64 (λ u. only (did s o p u) (Did o p u))))))) 931840
+    all-done : R (bytesOf (over 32 (λ o. over 32 (λ p. over 64 (λ u. only (did s o p u) (Did o p u)))))) 931840
     all-done =
-        to (omega (arith, widths-32))
-        (over-sum 32 25664 2048 (λ o. over 32 (λ p. over 64 (λ u. only (did s o p u) (Did o p u))))
-        (λ o ho. to (omega (arith, widths-32))
-        (over-sum 32 (64 * (9 + width o) + 118) 64 (λ p. over 64 (λ u. only (did s o p u) (Did o p u)))
-        (λ p hp. to (omega (arith, widths-64))
-        (over-sum 64 (9 + (width o + width p)) 1 (λ u. only (did s o p u) (Did o p u)) (λ u hu. to (omega arith) (lines .done o p u ho hp hu)))))))
+        to R summing (omega (arith, widths-32))
+        (over-sum R summing 32 25664 2048 (λ o. over 32 (λ p. over 64 (λ u. only (did s o p u) (Did o p u))))
+        (λ o ho. to R summing (omega (arith, widths-32))
+        (over-sum R summing 32 (64 * (9 + width o) + 118) 64 (λ p. over 64 (λ u. only (did s o p u) (Did o p u)))
+        (λ p hp. to R summing (omega (arith, widths-64))
+        (over-sum R summing 64 (9 + (width o + width p)) 1 (λ u. only (did s o p u) (Did o p u)) (λ u hu. to R summing (omega arith) (lines .done o p u ho hp hu)))))))
 
-    state-sum : R (length (savedText s)) 997501
+    -- the lines of assigned roles and of loans are counted together
+    lent-first : (a b c d e : List Entry) → bytesOf (a ++ (b ++ (c ++ (d ++ e)))) ≡ (bytesOf b + bytesOf d) + bytesOf (a ++ (c ++ e))
+    lent-first a b c d e = simp bytes-append (omega arith)
+
+    state-sum : R (length (savedText s)) 997821
     unfolding savedText linesOf
     state-sum =
-        to (omega (arith, widths-32))
-        (joined (Now (s .time) ∷ []) _ (lines .now)
-        (joined (over 64 (λ u. over 32 (λ r. only (assignedRole s u r) (Assigned u r)))) _ all-assigned
-        (joined (over 32 (λ r. over 32 (λ p. only (carries s r p) (Granted r p)))) _ all-granted
-        (joined (over 32 (sessionLines s)) _ (over-sum 32 444 34 (sessionLines s) one-session) all-done))))
+        let granted = over 32 (λ r. over 32 (λ p. only (carries s r p) (Granted r p))) in
+        rw (lent-first (Now (s .time) ∷ []) (assignedLines (assignedRole s)) granted (map loanLine (loansOf s)) _)
+        (to R summing (omega (arith, widths-32))
+        (summing .add _ _ _ _ (lines .lent)
+        (joined R summing (Now (s .time) ∷ []) _ (lines .now)
+        (joined R summing granted _ all-granted
+        (joined R summing (over 32 (sessionLines s)) _ (over-sum R summing 32 444 34 (sessionLines s) one-session) all-done)))))
 
 -- ---- enough
-
-only-most : (b : Bool) (e : Entry) {n : ℕ} → (b ≡ true → length (lineText e) ≤ n) → length (linesText (only b e)) ≤ n
-only-most true e h = rw (text-one e) (h refl)
-only-most false e h = rw text-none (omega arith)
 
 coordinate-most : (z : ℤ) → onGrid z ≡ true → length (signedOf (signedCode z)) ≤ 8
 unfolding signedOf signedCode
@@ -147,32 +121,49 @@ coordinate-most (negsuc n) h =
     let e : 10000000001 + n - 10000000000 ≡ suc n = omega arith in
     rw (lt-ltb 10000000000 (10000000001 + n) (omega arith), e) (omega (arith, digits-length 6 (suc n) (omega arith)))
 
-place-most : (i : ℕ) (p : Position) → i < 32 → positionInRange p ≡ true → length (linesText (placeLines i p)) ≤ 27 + width i
+place-most : (i : ℕ) (p : Position) → i < 32 → positionInRange p ≡ true → bytesOf (placeLines i p) ≤ 27 + width i
 unfolding positionInRange pointInRange
 place-most i Unknown l h = rw text-none (omega arith)
 place-most i (Known point) l h =
     let g = both (onGrid (point .x)) (onGrid (point .y)) h in
     rw (text-one (Place i (point .x) (point .y))) (omega (arith, place-bytes i (point .x) (point .y), digits-width i (omega arith), coordinate-most (point .x) (g .0), coordinate-most (point .y) (g .1)))
 
--- no state that 40 does not refuse has a longer text
-pub state-most : (s : State) → stateAccepted s ≡ true → length (savedText s) ≤ 997501
-state-most s accepted =
-    state-sum (λ a b. a ≤ b) (omega arith) (λ a b c d h k. omega arith) s
-    (record {
-      now = rw (text-one (Now (s .time))) (omega (arith, now-bytes (s .time), digits-length 9 (s .time) (omega (arith, time-accepted s accepted))));
-      assigned = λ u r hu hr. only-most (assignedRole s u r) (Assigned u r) (λ e. omega (arith, assigned-size u r (omega arith) (omega arith)));
-      granted = λ r p hr hp. only-most (carries s r p) (Granted r p) (λ e. omega (arith, granted-size r p (omega arith) (omega arith)));
-      opened = λ i h. only-most (isOpen s i) (Open i (userOf s i)) (λ e. let user = open-ranged s accepted i h e .0 in omega (arith, open-size i (userOf s i) (omega arith) (omega arith), width-most (userOf s i)));
-      placed = λ i h. place-most i (positionOf s i) h (position-ranged s accepted i h);
-      activated = λ i r h hr. only-most (activeRole s i r) (Active i r) (λ e. omega (arith, active-size i r (omega arith) (omega arith)));
-      done = λ o p u ho hp hu. only-most (did s o p u) (Did o p u) (λ e. omega (arith, did-size o p u (omega arith) (omega arith) (omega arith)));
-    })
+module _ (s : State) (accepted : stateAccepted s ≡ true) where
+  loans-accepted : loansAccepted (s .loans) ≡ true
+  unfolding stateAccepted
+  loans-accepted =
+      let each = all 32 (λ i. sessionAccepted (sessionAt (s .sessions) i) (wordAt (s .active) i)) in
+      both (loansAccepted (s .loans)) each (both (isTime (s .time)) (loansAccepted (s .loans) && each) accepted .1) .0
+
+  loans-most : (length (loansOf s) ≤ 32) × (acceptedFrom 0 (loansOf s) ≡ true)
+  unfolding loansAccepted
+  loans-most =
+      let parts = both (leb (s .loans .count) 32) (acceptedFrom 0 (loansOf s)) loans-accepted in
+      let taken : length (loansOf s) ≤ s .loans .count = rw (length-take (s .loans .count) (s .loans .entries)) (min-le-left (s .loans .count) (length (s .loans .entries))) in
+      (le-trans taken (leb-true (s .loans .count) 32 (parts .0)), parts .1)
+
+  -- no state that 40 does not refuse, and whose loans run as they were lent, has a longer text
+  pub state-most : Lending s → length (savedText s) ≤ 997821
+  state-most lending =
+      let borrowing : Borrowing (assignedRole s) (loansOf s) = record { unassigned = lending .borrowed; single = lending .single } in
+      state-sum (λ a b. a ≤ b) at-most s
+      (record {
+        now = rw (text-one (Now (s .time))) (omega (arith, now-bytes (s .time), digits-length 9 (s .time) (omega (arith, time-accepted s accepted))));
+        lent = omega (arith, lent-most (assignedRole s) 0 (loansOf s) (loans-most .1) borrowing, loans-most .0);
+        granted = λ r p hr hp. only-most (carries s r p) (Granted r p) (λ e. omega (arith, granted-size r p (omega arith) (omega arith)));
+        opened = λ i h. only-most (isOpen s i) (Open i (userOf s i)) (λ e. let user = open-ranged s accepted i h e .0 in omega (arith, open-size i (userOf s i) (omega arith) (omega arith), width-most (userOf s i)));
+        placed = λ i h. place-most i (positionOf s i) h (position-ranged s accepted i h);
+        activated = λ i r h hr. only-most (activeRole s i r) (Active i r) (λ e. omega (arith, active-size i r (omega arith) (omega arith)));
+        done = λ o p u ho hp hu. only-most (did s o p u) (Did o p u) (λ e. omega (arith, did-size o p u (omega arith) (omega arith) (omega arith)));
+      })
 
 -- so that a space of that size for the state after steps is never refused
-pub state-room : (rules saved text : List ℕ) (answersRoom stateRoom : ℕ) → 997501 ≤ stateRoom → (number place : ℕ)
+pub state-room : (rules saved text : List ℕ) (answersRoom stateRoom : ℕ) → 997821 ≤ stateRoom → (number place : ℕ)
     → RunRefused rules saved text answersRoom stateRoom Text.StateSpace number place → ⊥
 state-room rules saved text answersRoom stateRoom h number place (short-state list s given r fits long) =
-    omega (arith, state-most (lastState s (runOf list s given)) (last-accepted list s given (start-accepted rules saved text r) .unrefused))
+    let start = start-good rules saved text r in
+    let accepted = last-accepted list s given (start .accepted) .unrefused in
+    omega (arith, state-most (lastState s (runOf list s given)) accepted (last-lending list s given (start .accepted) (start .lending)))
 
 -- ---- and least
 
@@ -184,7 +175,7 @@ every-user : (u : ℕ) → u < 64 → member 18446744073709551615 u ≡ true
 unfolding member all
 every-user u h = of-all 64 (member 18446744073709551615) refl u h
 
-only-line : (b : Bool) (e : Entry) {n : ℕ} → b ≡ true → length (lineText e) ≡ n → length (linesText (only b e)) ≡ n
+only-line : (b : Bool) (e : Entry) {n : ℕ} → b ≡ true → length (lineText e) ≡ n → bytesOf (only b e) ≡ n
 only-line true e t h = rw (text-one e) h
 only-line false e t h = absurd (let differ : _≡_ {A = ℕ} 0 1 = cc in omega arith)
 
@@ -196,18 +187,71 @@ time-long : length (digitsOf 3155759999) ≡ 10
 unfolding digitsOf digitsWithin
 time-long = refl
 
+width-62 : width 62 ≡ 2
+unfolding width
+width-62 = refl
+
 width-63 : width 63 ≡ 2
 unfolding width
 width-63 = refl
 
 full-time : length (digitsOf (fullest .time)) ≡ 10
-unfolding fullest
-full-time = time-long
+unfolding fullest digitsOf digitsWithin
+full-time = refl
 
-full-open : (session : Session) → session ≡ farthest → (i : ℕ) → i < 32 → length (linesText (only (session .«is_open») (Open i (session .user)))) ≡ 11 + width i
+-- ---- its assigned roles and its loans
+
+-- user 62 is assigned none, any other user what he would be with all roles assigned
+word-62 : wordAt (fullest .assigned) 62 ≡ 0
+unfolding fullest
+word-62 = getD-set-same {A = ℕ} (replicate 64 4294967295) 62 0 0 (omega (arith, length-replicate {A = ℕ} 64 4294967295))
+
+word-other : (u : ℕ) → (u ≡ 62 → ⊥) → wordAt (fullest .assigned) u ≡ wordAt (replicate 64 4294967295) u
+unfolding fullest
+word-other u n = getD-set-other {A = ℕ} (replicate 64 4294967295) 62 u 0 0 n
+
+all-assigned : (u r : ℕ) → u < 64 → r < 32 → hasRole (replicate 64 4294967295) u r ≡ true
+all-assigned u r hu hr = rw (getD-replicate {A = ℕ} 64 u 4294967295 0 hu) (every-role r hr)
+
+full-line : (u r : ℕ) → u < 64 → r < 32 → bytesOf (only (hasRole (replicate 64 4294967295) u r) (Assigned u r)) ≡ 13 + (width u + width r)
+full-line u r hu hr = only-line (hasRole (replicate 64 4294967295) u r) (Assigned u r) (all-assigned u r hu hr) (assigned-size u r (omega arith) (omega arith))
+
+none-62 : bytesOf (userLines (assignedRole fullest 62) 62) ≡ 0
+none-62 =
+    over-sum (λ a b. a ≡ b) exactly 32 0 0 (λ r. only (assignedRole fullest 62 r) (Assigned 62 r))
+    (λ r l. let none : assignedRole fullest 62 r ≡ false = ap (λ (set : ℕ). member set r) word-62 ∙ member-empty r in rw (none, text-none) (omega arith))
+    ∙ omega arith
+
+all-62 : bytesOf (userLines (hasRole (replicate 64 4294967295) 62) 62) ≡ bytesOf (userLines (assignedRole fullest 62) 62) + 534
+all-62 = rw none-62 (user-sum (λ a b. a ≡ b) exactly (hasRole (replicate 64 4294967295)) 62 (λ r l. full-line 62 r (omega arith) l) ∙ omega (arith, width-62))
+
+full-assigned : bytesOf (assignedLines (assignedRole fullest)) + 534 ≡ 33856
+full-assigned =
+    sym (over-longer 64 62 534 (λ u. userLines (assignedRole fullest u) u) (λ u. userLines (hasRole (replicate 64 4294967295) u) u) (omega arith)
+    (λ u n. ap (λ (set : ℕ). userLines (member set) u) (sym (word-other u n))) all-62)
+    ∙ assigned-sum (λ a b. a ≡ b) exactly (hasRole (replicate 64 4294967295)) full-line
+
+full-loans : loansOf fullest ≡ longestLoans
+unfolding fullest longestLoans over
+full-loans = running-stored longestLoans (omega arith)
+
+loan-lines : map loanLine longestLoans ≡ over 32 (λ r. loanLine (longestLoan r) ∷ [])
+unfolding longestLoans over
+loan-lines = refl
+
+full-lent : bytesOf (map loanLine (loansOf fullest)) ≡ 854
+full-lent =
+    rw (full-loans, loan-lines)
+    (over-sum (λ a b. a ≡ b) exactly 32 25 1 (λ r. loanLine (longestLoan r) ∷ [])
+    (λ r l. rw (text-one (loanLine (longestLoan r))) (loan-size 63 62 r 3155759999 (omega arith) (omega arith) (omega arith) ∙ omega (arith, width-62, width-63, time-long)))
+    ∙ omega (arith, widths-32))
+
+-- ---- its other lines
+
+full-open : (session : Session) → session ≡ farthest → (i : ℕ) → i < 32 → bytesOf (only (session .«is_open») (Open i (session .user))) ≡ 11 + width i
 full-open session e i h = rw (e, text-one (Open i 63)) (open-size i 63 (omega arith) (omega arith) ∙ omega (arith, width-63))
 
-full-place : (session : Session) → session ≡ farthest → (i : ℕ) → i < 32 → length (linesText (placeLines i (session .position))) ≡ 27 + width i
+full-place : (session : Session) → session ≡ farthest → (i : ℕ) → i < 32 → bytesOf (placeLines i (session .position)) ≡ 27 + width i
 full-place session e i h =
     rw (e, text-one (Place i (negsuc 999999) (negsuc 999999))) (place-bytes i (negsuc 999999) (negsuc 999999) ∙ omega (arith, digits-width i (omega arith), coordinate-long))
 
@@ -215,10 +259,6 @@ module _ where
   full-session : (i : ℕ) → i < 32 → sessionAt (fullest .sessions) i ≡ farthest
   unfolding fullest
   full-session i h = getD-replicate 32 i farthest _ h
-
-  full-assigned : (u r : ℕ) → u < 64 → r < 32 → assignedRole fullest u r ≡ true
-  unfolding fullest
-  full-assigned u r hu hr = rw (getD-replicate {A = ℕ} 64 u 4294967295 0 hu) (every-role r hr)
 
   full-carries : (r p : ℕ) → r < 32 → p < 32 → carries fullest r p ≡ true
   unfolding fullest permissionsOf
@@ -232,33 +272,13 @@ module _ where
   unfolding fullest usersWho
   full-did o p u ho hp hu = rw (lt-ltb p 32 hp, getD-replicate {A = ℕ} 1024 (o * 32 + p) 18446744073709551615 0 (omega arith)) (every-user u hu)
 
-word-past : (n i x : ℕ) → n ≤ i → getD (replicate n x) i 0 ≡ 0
-word-past zero i x h = refl
-word-past (suc n) zero x h = absurd (omega arith)
-word-past (suc n) (suc i) x h = word-past n i x (omega arith)
-
-full-words : (i : ℕ) → i < 32 → wordAt (fullest .assigned) 63 ≡ wordAt (fullest .active) i
-unfolding fullest
-full-words i h = sym (getD-replicate {A = ℕ} 32 i 4294967295 0 h)
-
-no-word : (i : ℕ) → 32 ≤ i → wordAt (fullest .active) i ≡ 0
-unfolding fullest
-no-word i h = word-past 32 i 4294967295 h
-
--- 40 does not refuse it
-pub fullest-accepted : stateAccepted fullest ≡ true
-unfolding stateAccepted sessionAccepted positionInRange pointInRange
-fullest-accepted =
-    both-true (leb (fullest .time) 3155759999) _ (unfold fullest in refl)
-    (all-of 32 (λ i. sessionAccepted (sessionAt (fullest .sessions) i) (wordAt (fullest .active) i)) (λ i h. rw (full-session i h)))
-
--- and its text has as many bytes
-pub fullest-text : length (savedText fullest) ≡ 997501
+-- its text has as many bytes
+pub fullest-text : length (savedText fullest) ≡ 997821
 fullest-text =
-    state-sum (λ a b. a ≡ b) refl (λ a b c d h k. rw (h, k)) fullest
+    state-sum (λ a b. a ≡ b) exactly fullest
     (record {
       now = rw (text-one (Now (fullest .time))) (now-bytes (fullest .time) ∙ ap (λ (n : ℕ). 7 + n) full-time);
-      assigned = λ u r hu hr. only-line (assignedRole fullest u r) (Assigned u r) (full-assigned u r hu hr) (assigned-size u r (omega arith) (omega arith));
+      lent = omega (arith, full-assigned, full-lent);
       granted = λ r p hr hp. only-line (carries fullest r p) (Granted r p) (full-carries r p hr hp) (granted-size r p (omega arith) (omega arith));
       opened = λ i h. full-open (sessionAt (fullest .sessions) i) (full-session i h) i h;
       placed = λ i h. full-place (sessionAt (fullest .sessions) i) (full-session i h) i h;
@@ -266,25 +286,86 @@ fullest-text =
       done = λ o p u ho hp hu. only-line (did fullest o p u) (Did o p u) (full-did o p u ho hp hu) (did-size o p u (omega arith) (omega arith) (omega arith));
     })
 
+-- ---- it is a saved state
+
+-- 40 does not refuse it
+pub fullest-accepted : stateAccepted fullest ≡ true
+unfolding stateAccepted sessionAccepted positionInRange pointInRange
+fullest-accepted =
+    both-true (leb (fullest .time) 3155759999) _ (unfold fullest in refl)
+    (both-true (loansAccepted (fullest .loans)) _ (unfold fullest loansAccepted acceptedFrom loanInRange key stored longestLoans over in refl)
+    (all-of 32 (λ i. sessionAccepted (sessionAt (fullest .sessions) i) (wordAt (fullest .active) i)) (λ i h. rw (full-session i h))))
+
+-- each of its loans is of a role by user 63 to user 62
+loan-of : (n : ℕ) (loan : Loan) → List·Memᴰ loan (over n (λ r. longestLoan r ∷ [])) → (r : ℕ) × (r < n) × (loan ≡ longestLoan r)
+unfolding over
+loan-of zero loan m = absurd (List·Memᴰ·not-nil m)
+loan-of (suc n) loan m =
+    ⊎-elim
+    (λ m. let there = loan-of n loan m in (there .0, omega (arith, there .1), there .2))
+    (λ m. (n, omega arith, List·Memᴰ·eq-of-singleton m))
+    (List·Memᴰ·append-cases (over n (λ r. longestLoan r ∷ [])) m)
+
+full-loan : (loan : Loan) → List·Memᴰ loan (loansOf fullest) → (r : ℕ) × (r < 32) × (loan ≡ longestLoan r)
+unfolding longestLoans
+full-loan loan m = loan-of 32 loan (subst (List·Memᴰ loan) full-loans m)
+
+word-63 : wordAt (fullest .assigned) 63 ≡ 4294967295
+word-63 = word-other 63 (λ e. omega arith) ∙ getD-replicate {A = ℕ} 64 63 4294967295 0 (omega arith)
+
+fullest-lending : Lending fullest
+fullest-lending =
+    record {
+      unended = λ loan m. let there = full-loan loan m in rw (there .2) (unfold fullest in omega arith);
+      lent = λ loan m. let there = full-loan loan m in rw (there .2, word-63) (every-role (there .0) (there .1));
+      borrowed = λ loan m. let there = full-loan loan m in rw (there .2, word-62) (member-empty (there .0));
+      single = λ loan other m n borrower role.
+          let one = full-loan loan m in
+          let two = full-loan other n in
+          let same : one .0 ≡ two .0 = sym (ap (λ (l : Loan). l .role) (one .2)) ∙ role ∙ ap (λ (l : Loan). l .role) (two .2) in
+          one .2 ∙ ap longestLoan same ∙ sym (two .2);
+      filled = unfold fullest in ap stored (sym full-loans);
+    }
+
 word-small : (n i x : ℕ) {m : ℕ} → x < m → getD (replicate n x) i 0 < m
 word-small zero i x h = omega arith
 word-small (suc n) zero x h = h
 word-small (suc n) (suc i) x h = word-small n i x h
 
+set-small : (l : List ℕ) (i j x : ℕ) {m : ℕ} → x < m → getD l j 0 < m → getD (set l i x) j 0 < m
+set-small [] i j x h k = k
+set-small (y ∷ l) zero zero x h k = h
+set-small (y ∷ l) zero (suc j) x h k = k
+set-small (y ∷ l) (suc i) zero x h k = k
+set-small (y ∷ l) (suc i) (suc j) x h k = set-small l i j x h k
+
 fullest-typed : Typed fullest
 unfolding fullest
 fullest-typed =
     record {
-      users = length-replicate {A = ℕ} 64 4294967295;
+      users = length-set {A = ℕ} (replicate 64 4294967295) 62 0 ∙ length-replicate {A = ℕ} 64 4294967295;
       roles = length-replicate {A = ℕ} 32 4294967295;
+      allLoans = length-stored longestLoans;
       allSessions = length-replicate 32 farthest;
       actives = length-replicate {A = ℕ} 32 4294967295;
       records = length-replicate {A = ℕ} 1024 18446744073709551615;
-      smallAssigned = λ u. word-small 64 u 4294967295 (omega arith);
+      smallAssigned = λ u. set-small (replicate 64 4294967295) 62 u 0 (omega arith) (word-small 64 u 4294967295 (omega arith));
       smallGranted = λ r. word-small 32 r 4294967295 (omega arith);
       smallActive = λ i. word-small 32 i 4294967295 (omega arith);
       smallHistory = λ k. word-small 1024 k 18446744073709551615 (omega arith);
     }
+
+word-past : (n i x : ℕ) → n ≤ i → getD (replicate n x) i 0 ≡ 0
+word-past zero i x h = refl
+word-past (suc n) zero x h = absurd (omega arith)
+word-past (suc n) (suc i) x h = word-past n i x (omega arith)
+
+full-words : (i : ℕ) → i < 32 → wordAt (fullest .assigned) 63 ≡ wordAt (fullest .active) i
+full-words i h = word-63 ∙ sym (unfold fullest in getD-replicate {A = ℕ} 32 i 4294967295 0 h)
+
+no-word : (i : ℕ) → 32 ≤ i → wordAt (fullest .active) i ≡ 0
+unfolding fullest
+no-word i h = word-past 32 i 4294967295 h
 
 fullest-held : Held fullest
 fullest-held i r e = go (ltb i 32) refl
@@ -294,7 +375,7 @@ fullest-held i r e = go (ltb i 32) refl
         let below = ltb-true i 32 q in
         let user : userOf fullest i ≡ 63 = ap (λ (session : Session). session .user) (full-session i below) in
         let same : wordAt (fullest .assigned) 63 ≡ wordAt (fullest .active) i = full-words i below in
-        rw (user, same) e
+        rw user (held-assigned (fullest .assigned) (loansOf fullest) 63 r (rw same e))
     go false q = let past : wordAt (fullest .active) i ≡ 0 = no-word i (ltb-false i 32 q) in clash (rw past at e) (member-empty r)
 
 fullest-good : Good (listOf []) fullest
@@ -302,15 +383,16 @@ fullest-good =
     record {
       accepted = record { typed = fullest-typed; unrefused = fullest-accepted };
       held = fullest-held;
+      lending = fullest-lending;
       obeyed = ap (λ (rules : List Rule). obeys rules fullest) (rules-of-list [] (omega arith)) ∙ unfold every in refl;
     }
 
 -- under no rules it is a saved state, and a space that is shorter by a byte is too short for it
-pub state-least : (room : ℕ) → room < 997501 → copyReport (loadTexts [] (savedText fullest)) room ≡ refusedReport Text.StateSpace 18 997501
+pub state-least : (room : ℕ) → room < 997821 → copyReport (loadTexts [] (savedText fullest)) room ≡ refusedReport Text.StateSpace 18 997821
 unfolding copyReport savedReport
 state-least room h =
     let then : RulesThen [] [] [] = record { few = omega arith; accepted = unfold every in refl; reads = unfold listText in refl } in
     let listed : listAccepted (listOf []) ≡ true = list-accepted [] (omega arith) (unfold every in refl) in
     let there : loadTexts [] (savedText fullest) ≡ holding (listOf []) fullest =
     load-state [] (savedText fullest) [] then ∙ ap (stateUnder (listOf [])) (good-back (listOf []) listed fullest fullest-good) ∙ unfold stateUnder in refl in
-    rw (there, fullest-text, lt-leb 997501 room h)
+    rw (there, fullest-text, lt-leb 997821 room h)

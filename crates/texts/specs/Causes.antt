@@ -22,7 +22,7 @@ use Rattle.rule_text.specs.Lines.{listText, filler}
 use Rattle.rule_text.specs.Reading.{listOf}
 use Rattle.rule_text.specs.Causes as rule
 use Rattle.state_text.specs.Saving.{savedText}
-use Rattle.state_text.specs.Causes.{NoForm, OutOfRange, OutOfOrder, Unrested, BadLine, GoodText}
+use Rattle.state_text.specs.Causes.{NoForm, OutOfRange, OutOfOrder, Unrested, ThirtyThird, BadLine, GoodText}
 use Rattle.step_text.specs.Lines.{steps, readSteps}
 use Rattle.step_text.specs.Answers.{answersText}
 use Rattle.step_text.specs.Causes as step
@@ -61,12 +61,14 @@ pub record RunsSteps (input : List ℕ) (list : RuleList) (lines : List Action) 
 
 -- ---- steps over a saved state
 
--- the saved text, where the rules are accepted: "10, 11, 15, 16 (saved) ..; the first bad line counts, then 17"
+-- the saved text, where the rules are accepted: "10, 11, 15, 16 (saved) ..; the first bad line counts, then 17"; 2026-01: "a thirty-third is
+-- 51 with its line, looked for after 16"
 pub data StateCause (rules : List Rule) (saved : List ℕ) : ℕ → ℕ → Type 0 where
   state-no-form : (n : ℕ) → BadLine NoForm saved n → StateCause rules saved 10 n
   state-out-of-range : (n : ℕ) → BadLine (λ earlier rest. OutOfRange rest) saved n → StateCause rules saved 11 n
   state-out-of-order : (n : ℕ) → BadLine OutOfOrder saved n → StateCause rules saved 15 n
   state-unrested : (n : ℕ) → BadLine Unrested saved n → StateCause rules saved 16 n
+  state-thirty-third : (n : ℕ) → BadLine ThirtyThird saved n → StateCause rules saved 51 n
   -- "saved state breaks a rule", with the "lowest rule"
   state-breaks : (s : State) (n : ℕ) → GoodText saved s → n < length rules → ruleHolds (getD rules n filler) s ≡ false
       → ((k : ℕ) → k < n → ruleHolds (getD rules k filler) s ≡ true) → StateCause rules saved 17 (suc n)

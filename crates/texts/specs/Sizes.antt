@@ -1,8 +1,9 @@
 -- The state and the rule list with the longest texts: that no other has a longer one is proved in proofs/StateSizes.antt and
 -- proofs/RuleSizes.antt. Assumes nothing.
 use mathlib.Core.Bool.{true}
-use mathlib.Core.List.{List}
-use lib.ListN.{replicate}
+use mathlib.Core.List.{List, [], _∷_}
+use Prim.Native.Nat.{ℕ}
+use lib.ListN.{replicate, set}
 use lib.IntN.{negsuc}
 use Rattle.places.specs.declared.Position.the-variants.{Known}
 use Rattle.places.specs.declared.Shape.the-variants.{Box}
@@ -10,19 +11,31 @@ use Rattle.places.specs.declared.Side.the-variants.{Outside}
 use Rattle.rules.specs.declared.families.Rule.{Rule}
 use Rattle.rules.specs.declared.families.Rule.the-variants.{LocationContext}
 use Rattle.rules.specs.declared.sessions.Session.{Session}
+use Rattle.loans.specs.Loans.{loanOf, stored}
+use Rattle.loans.specs.declared.Loan.{Loan}
 use Rattle.enforcement.specs.declared.states.State.{State}
+use Rattle.state_text.specs.Saving.{over}
 
 -- open for user 63 at the corner of the grid that takes the most bytes: -1,000,000 and -1,000,000
 abbrev pub farthest : Session
 farthest = record { «is_open» = true; user = 63; position = Known (record { x = negsuc 999999; y = negsuc 999999 }) }
 
--- the last time, every role assigned, every permission carried, every role active in every session, everything done by everybody
+-- 2026-01, "up to 32 loans": every role, lent by user 63 to user 62 until the last time
+abbrev pub longestLoan : ℕ → Loan
+longestLoan r = loanOf 63 62 r 3155759999
+
+unfoldable pub longestLoans : List Loan
+longestLoans = over 32 (λ r. longestLoan r ∷ [])
+
+-- a second before the last time; every role assigned to each user but 62, who has them all on loan: the line of a loan is longer than the line
+-- that it stands for; every permission carried, every role active in every session, everything done by everybody
 unfoldable pub fullest : State
 fullest =
     record {
-      time = 3155759999;
-      assigned = replicate 64 4294967295;
+      time = 3155759998;
+      assigned = set (replicate 64 4294967295) 62 0;
       granted = replicate 32 4294967295;
+      loans = stored longestLoans;
       sessions = replicate 32 farthest;
       active = replicate 32 4294967295;
       history = replicate 1024 18446744073709551615;

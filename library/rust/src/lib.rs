@@ -42,7 +42,7 @@ pub use room::{ANSWER_MOST, FRESH_MOST, INPUT_MOST, OUTPUT_MOST, RULES_MOST, STA
 use raw::Report;
 
 /// The version that this crate was written for: 10,000 times the major version, 100 times the minor one, and the third number.
-pub const VERSION: u64 = 10_000;
+pub const VERSION: u64 = 10_100;
 
 /// The version of the library that is linked, as [`VERSION`] is of this crate.
 pub fn version() -> u64 {
@@ -63,7 +63,7 @@ pub struct Lengths {
 ///
 /// A step answered `(no number rule selected)` is no refusal of the call.
 ///
-/// Refused, in this order: steps above [`INPUT_MOST`] bytes (19), the rule list (10 to 14), the saved state (10, 11, 15, 16; then
+/// Refused, in this order: steps above [`INPUT_MOST`] bytes (19), the rule list (10 to 14), the saved state (10, 11, 15, 16, 51; then
 /// 17), the steps (10), `answers` too short (18; with [`OUTPUT_MOST`] bytes never), `next` too short (18; with [`STATE_MOST`] bytes never).
 pub fn run_steps_into(
     rules: &[u8],
@@ -126,7 +126,7 @@ pub fn copy_rules_into(rules: &[u8], copy: &mut [u8]) -> Result<usize, Refusal> 
 
 /// Whether a saved state is accepted under a rule list.
 ///
-/// Refused, in this order: the rule list (10 to 14), the saved state's first bad line (10, 11, 15, 16), the lowest rule that it
+/// Refused, in this order: the rule list (10 to 14), the saved state's first bad line (10, 11, 15, 16, 51), the lowest rule that it
 /// breaks (17).
 pub fn check_state(rules: &[u8], state: &[u8]) -> Result<(), Refusal> {
     let mut report = Report::default();

@@ -7,7 +7,7 @@ use core::fmt;
 #[derive(Clone, Copy, Debug, PartialEq, Eq)]
 #[non_exhaustive]
 pub struct Refusal {
-    /// 10 to 19: [`cause`] has each in words.
+    /// 10 to 19, or 51: [`cause`] has each in words.
     pub number: u64,
     pub text: Text,
     /// The line of that text, from 1; for 17 the rule; for 18 the bytes that the space needs; 0 where there is none.
@@ -42,7 +42,7 @@ impl Text {
     }
 }
 
-/// The cause of a number in words, of an answer's number (20 to 30) too; none for a number without a cause.
+/// The cause of a number in words, of an answer's number (20 to 30, 50 to 52) too; none for a number without a cause.
 pub fn cause(number: u64) -> Option<&'static str> {
     let cause = match number {
         10 => "line is no form of its text",
@@ -51,7 +51,7 @@ pub fn cause(number: u64) -> Option<&'static str> {
         13 => "same role or permission twice in a rule",
         14 => "no such date, A after B, h = k, box a > c or b > d",
         15 => "saved line out of order or twice",
-        16 => "place or active without its open, or role not assigned",
+        16 => "place or active without its open, or role not held; a loan whose lender is not assigned the role, whose borrower holds it already, or whose time is not later than now",
         17 => "saved state breaks a rule",
         18 => "lent space shorter than the text or answers",
         19 => "program input too long",
@@ -59,12 +59,15 @@ pub fn cause(number: u64) -> Option<&'static str> {
         21 => "t before the present time",
         22 => "session open",
         23 => "session not open",
-        24 => "already assigned, granted, active in this session",
-        25 => "not assigned, granted, active in this session",
-        26 => "role not assigned to the session's user",
-        27 => "role active in a session of the user",
+        24 => "already held, granted, active in this session",
+        25 => "not assigned, granted, active in this session, or no such loan",
+        26 => "role not held by the session's user",
+        27 => "role active in a session of the user, or lent out by him",
         28 => "no role active in the session carries the permission",
         30 => "a rule broken in the target",
+        50 => "lender not assigned the role",
+        51 => "32 loans run; a thirty-third saved loan",
+        52 => "loan's time not later than now",
         _ => return None,
     };
     Some(cause)

@@ -12,11 +12,13 @@ const _: () = assert!(INPUT_MOST / "(lost 0)\n".len() * ANSWER_MOST <= OUTPUT_MO
 /// at most 32 times 32 pairs end, `(yes 128 1024)`.
 pub const ANSWER_MOST: usize = "(no 30 128 128)\n".len();
 
-/// Bytes that hold any saved state: every line that its forms allow is there, with the longest time, users and positions.
-/// No line stands twice (15), so no text is longer.
+/// Bytes that hold any saved state: every line that its forms allow is there, with the longest times, users and positions. No line
+/// stands twice (15), there are at most 32 loans (51), and where a loan's line stands, that of the borrower's assigned role does not
+/// (16): so no text is longer.
 pub const STATE_MOST: usize = "(now 3155759999)\n".len()
     + every("(assigned  )\n", &[USERS, ROLES])
     + every("(granted  )\n", &[ROLES, PERMISSIONS])
+    + LOANS * ("(loan 63   3155759999)\n".len() - "(assigned  )\n".len())
     + every("(open  63)\n", &[SESSIONS])
     + every("(place  -1000000 -1000000)\n", &[SESSIONS])
     + every("(active  )\n", &[SESSIONS, ROLES])
@@ -40,6 +42,7 @@ const ROLES: usize = 32;
 const PERMISSIONS: usize = 32;
 const SESSIONS: usize = 32;
 const OBJECTS: usize = 32;
+const LOANS: usize = 32;
 
 /// The bytes of a form's lines, one for each choice of a number below each of `counts`; the form is given without them.
 const fn every(form: &str, counts: &[usize]) -> usize {

@@ -1,4 +1,4 @@
-//! What each function promises, on texts whose answers were worked out from document 01. Needs nothing but this folder and the archive:
+//! What each function promises, on texts whose answers were worked out from documents 01 and 02. Needs nothing but this folder and the archive:
 //! from a copy of it, `PITCH_GATE_LIBRARY=FOLDER cargo test`, where FOLDER has libpitch_gate.a.
 
 use pitch_gate::*;
@@ -161,12 +161,17 @@ fn check_state_accepts_and_refuses() {
     assert_eq!(told(check_state(RULES, STATE)), Ok(()));
     assert_eq!(told(check_state(b"", BREAKING_STATE)), Ok(()));
     assert_eq!(told(check_state(BAD_RULES, b"")), Err((13, Text::Rules, 2)));
-    let refused: [(&[u8], u64, u64); 5] = [
+    let refused: [(&[u8], u64, u64); 10] = [
         (b"", 10, 1),
         (b"(now 0)\n(assigned 64 1)\n", 11, 2),
         (b"(assigned 5 1)\n", 15, 1),
+        (b"(now 0)\n(assigned 5 3)\n(loan 5 6 3 60)\n(loan 5 6 3 90)\n", 15, 4),
         (b"(now 0)\n(open 0 5)\n(active 0 1)\n", 16, 3),
+        (b"(now 0)\n(assigned 5 3)\n(loan 6 8 3 60)\n", 16, 3),
+        (b"(now 0)\n(assigned 5 3)\n(assigned 6 3)\n(loan 5 6 3 60)\n", 16, 4),
+        (b"(now 60)\n(assigned 5 3)\n(loan 5 6 3 60)\n", 16, 3),
         (BREAKING_STATE, 17, 2),
+        (b"(now 0)\n(assigned 5 3)\n(assigned 6 1)\n(loan 5 6 3 60)\n", 17, 2),
     ];
     for (state, number, place) in refused {
         assert_eq!(told(check_state(RULES, state)), Err((number, Text::State, place)));
@@ -221,6 +226,60 @@ fn run_steps_without_steps_hands_the_state_back() {
 }
 
 #[test]
+fn run_steps_lends_a_role_until_its_time_or_its_recall() {
+    let start = b"(now 0)\n(assigned 5 3)\n(granted 3 2)\n(open 0 6)\n";
+    let lent = b"(now 0)\n(assigned 5 3)\n(granted 3 2)\n(loan 5 6 3 60)\n(open 0 6)\n(active 0 3)\n(did 7 2 6)\n";
+    let borrowing = b"(activate 0 3)\n(lend 5 6 3 60)\n(activate 0 3)\n(access 0 2 7)\n";
+    let borrowed = b"(no 26 0 0)\n(yes 0 0)\n(yes 0 0)\n(yes 0 0)\n";
+    assert_eq!(ran(b"", start, borrowing), Ok((borrowed.to_vec(), lent.to_vec())));
+    let reached = b"(now 60)\n(assigned 5 3)\n(granted 3 2)\n(open 0 6)\n(did 7 2 6)\n";
+    assert_eq!(ran(b"", lent, b"(clock 59)\n(clock 60)\n"), Ok((b"(yes 0 0)\n(yes 0 1)\n".to_vec(), reached.to_vec())));
+    let recalled = b"(now 0)\n(assigned 5 3)\n(granted 3 2)\n(open 0 6)\n(did 7 2 6)\n";
+    let twice = b"(recall 5 6 3)\n(recall 5 6 3)\n";
+    assert_eq!(ran(b"", lent, twice), Ok((b"(yes 0 1)\n(no 25 0 0)\n".to_vec(), recalled.to_vec())));
+}
+
+#[test]
+fn run_steps_answers_what_cannot_be_lent_or_taken_from_a_lender() {
+    let state = b"(now 60)\n(assigned 5 3)\n(assigned 8 1)\n";
+    let asked: [(&str, &str); 11] = [
+        ("(lend 6 8 3 90)", "(no 50 0 0)"),
+        ("(lend 5 5 3 90)", "(no 24 0 0)"),
+        ("(lend 5 6 3 60)", "(no 52 0 0)"),
+        ("(lend 5 6 3 3155760000)", "(no 20 0 0)"),
+        ("(lend 5 8 3 90)", "(no 30 2 1)"),
+        ("(lend 5 6 3 90)", "(yes 1 0)"),
+        ("(assign 6 3)", "(no 24 0 0)"),
+        ("(assign 6 1)", "(no 30 2 1)"),
+        ("(withdraw 5 3)", "(no 27 0 0)"),
+        ("(recall 5 6 3)", "(yes 1 0)"),
+        ("(withdraw 5 3)", "(yes 0 0)"),
+    ];
+    let steps: String = asked.iter().map(|(step, _)| format!("{step}\n")).collect();
+    let answers: String = asked.iter().map(|(_, answer)| format!("{answer}\n")).collect();
+    assert_eq!(ran(RULES, state, steps.as_bytes()), Ok((answers.into_bytes(), b"(now 60)\n(assigned 8 1)\n".to_vec())));
+}
+
+/// User 5 has lent role 3 to so many others.
+fn state_with_loans(loans: usize) -> Vec<u8> {
+    let lines: String = (10..10 + loans).map(|borrower| format!("(loan 5 {borrower} 3 60)\n")).collect();
+    format!("(now 0)\n(assigned 5 3)\n{lines}").into_bytes()
+}
+
+#[test]
+fn a_thirty_third_loan_is_refused() {
+    let full = state_with_loans(32);
+    let mut copy = space(full.len());
+    assert_eq!(told(copy_state_into(b"", &full, &mut copy)), Ok(full.len()));
+    assert_eq!(copy, full);
+    let mut short = space(full.len() - 1);
+    assert_eq!(told(copy_state_into(b"", &full, &mut short)), Err((18, Text::StateSpace, full.len() as u64)));
+    assert!(is_untouched(&short));
+    assert_eq!(ran(b"", &full, b"(lend 5 9 3 60)\n"), Ok((b"(no 51 0 0)\n".to_vec(), full)));
+    assert_eq!(told(check_state(b"", &state_with_loans(33))), Err((51, Text::State, 35)));
+}
+
+#[test]
 fn run_steps_refuses_in_order() {
     let bad: &[u8] = b"nothing\n";
     assert_eq!(ran(bad, bad, &vec![b'?'; INPUT_MOST + 1]), Err((19, Text::Steps, 0)));
@@ -268,26 +327,32 @@ fn run_steps_into_leaves_every_byte_on_a_refusal() {
     refused(rules, FRESH, steps, 0, 0, (18, Text::OutputSpace, most as u64));
 }
 
+/// A borrower is not assigned what he borrows: the longest text with 32 loans lacks as many of the lines that the space is long enough for.
 #[test]
-fn the_longest_state_fills_its_space() {
+fn the_longest_state_fits_its_space() {
     let state = longest_state();
     assert_eq!(state.len(), STATE_MOST);
     let mut copy = space(STATE_MOST);
-    assert_eq!(told(copy_state_into(b"", &state, &mut copy)), Ok(STATE_MOST));
-    assert!(copy == state);
-    assert_eq!(told(copy_state_into(b"", &state, &mut copy[1..])), Err((18, Text::StateSpace, STATE_MOST as u64)));
-    assert!(copy == state);
+    assert_eq!(told(copy_state_into(b"", &state, &mut copy)), Ok(state.len()));
+    assert!(copy.strip_prefix(&state[..]).is_some_and(is_untouched));
+    let mut short = space(state.len() - 1);
+    assert_eq!(told(copy_state_into(b"", &state, &mut short)), Err((18, Text::StateSpace, state.len() as u64)));
+    assert!(is_untouched(&short));
 }
 
-/// Everything assigned, granted, open, active and done, with the longest time, users and positions.
+/// Everything assigned or lent, granted, open, active and done, with the longest times, users and positions.
 fn longest_state() -> Vec<u8> {
-    let mut text = String::from("(now 3155759999)\n");
+    let mut text = String::from("(now 3155759998)\n");
     let pairs = |first, second| (0..first).flat_map(move |one| (0..second).map(move |other| (one, other)));
-    for (user, role) in pairs(64, 32) {
+    let borrowers = 10..42;
+    for (user, role) in pairs(64, 32).filter(|(user, role)| *role != 31 || !borrowers.contains(user)) {
         text += &format!("(assigned {user} {role})\n");
     }
     for (role, permission) in pairs(32, 32) {
         text += &format!("(granted {role} {permission})\n");
+    }
+    for borrower in borrowers {
+        text += &format!("(loan 63 {borrower} 31 3155759999)\n");
     }
     for session in 0..32 {
         text += &format!("(open {session} 63)\n(place {session} -1000000 -1000000)\n");
@@ -312,6 +377,10 @@ fn a_refusal_names_its_cause() {
         "refused with 17 in the saved state, rule 2: saved state breaks a rule"
     );
     assert_eq!(
+        check_state(b"", &state_with_loans(33)).unwrap_err().to_string(),
+        "refused with 51 in the saved state, line 35: 32 loans run; a thirty-third saved loan"
+    );
+    assert_eq!(
         fresh_state_into(&mut []).unwrap_err().to_string(),
         "refused with 18 in the space for the saved state, which needs 8 bytes: lent space shorter than the text or answers"
     );
@@ -324,7 +393,7 @@ fn a_refusal_names_its_cause() {
 #[test]
 fn each_number_has_its_own_cause() {
     let causes: Vec<&str> = (0..100).filter_map(cause).collect();
-    assert_eq!(causes.len(), 20);
+    assert_eq!(causes.len(), 23);
     assert!(causes.iter().all(|one| causes.iter().filter(|other| *other == one).count() == 1));
     assert_eq!((cause(0), cause(29), cause(40)), (None, None, None));
 }

@@ -2,8 +2,10 @@
 
 use crate::generate::damage::DAMAGES;
 use crate::plain::gate::{Answer, Outcome};
+use crate::plain::ranges::MOST_LOANS;
 use crate::plain::rules::Rule;
 use crate::plain::selected::selects;
+use crate::plain::state::State;
 use crate::plain::steps::Step;
 use std::collections::BTreeMap;
 
@@ -29,8 +31,21 @@ const ENDED: &str = "event that ended two pairs or more";
 const ENDED_SEARCHED: &str = "event that ended two pairs or more, every part looked at";
 const ENDED_IN_ROUNDS: &str = "event that ended pairs in two rounds or more";
 const DAMAGED: &str = "damaged text";
+const ON_LOAN: &str = "role on loan and not assigned";
+const BROKEN_BY_LOANS: &str = "lowest rule of a 30 that only loans break";
+const LENT_OUT: &str = "27 with the role lent out and not active";
+const MOST_LOANS_RUN: &str = "lend after which 32 loans run";
+const LOAN_ENDED: &str = "event that ended loans";
+const CLOSED: &str = "event that closed roles not held";
+const CLOSED_THEN_ENDED: &str = "event that closed roles not held and then ended others";
 
-const EVENTS: [&str; 4] = ["close", "move", "lost", "clock"];
+const EVENTS: [&str; 5] = ["close", "move", "lost", "clock", "recall"];
+const EVENTS_THAT_END_LOANS: [&str; 2] = ["clock", "recall"];
+
+const ASSIGN_REFUSED: &str = "assign refused with 24";
+const LEND_REFUSED: &str = "lend refused with 24";
+const ACTIVATED: &str = "activate granted";
+const FAMILIES_OF_HELD_ROLES: [&str; 3] = ["max-users", "max-roles", "apart"];
 const FAMILIES: [&str; 19] = [
     "before",
     "max-users",
@@ -53,8 +68,8 @@ const FAMILIES: [&str; 19] = [
     "same-hand",
 ];
 
-/// The column "Checks" of the table, with 20 before all.
-const STEPS: [(&str, &[u64]); 13] = [
+/// The column "Checks" of the table, with 20 before all; of lend and recall those of 2026-01.
+const STEPS: [(&str, &[u64]); 15] = [
     ("assign", &[20, 24, 30]),
     ("withdraw", &[20, 25, 27, 30]),
     ("grant", &[20, 24, 30]),
@@ -68,6 +83,8 @@ const STEPS: [(&str, &[u64]); 13] = [
     ("move", &[20, 23]),
     ("lost", &[20, 23]),
     ("clock", &[20, 21]),
+    ("lend", &[20, 50, 24, 52, 51, 30]),
+    ("recall", &[20, 25]),
 ];
 
 pub const INPUT: &str = "the input";
@@ -90,16 +107,16 @@ const CALLS: [(&str, &str, &[u64]); 24] = [
     ("copy_rules", OUTPUT_SPACE, &[18]),
     ("check_state", NOTHING, &[NOT_REFUSED]),
     ("check_state", RULES, &[10, 11, 12, 13, 14]),
-    ("check_state", STATE, &[10, 11, 15, 16, 17]),
+    ("check_state", STATE, &[10, 11, 15, 16, 17, 51]),
     ("copy_state", NOTHING, &[NOT_REFUSED]),
     ("copy_state", RULES, &[10, 11, 12, 13, 14]),
-    ("copy_state", STATE, &[10, 11, 15, 16, 17]),
+    ("copy_state", STATE, &[10, 11, 15, 16, 17, 51]),
     ("copy_state", STATE_SPACE, &[18]),
     ("fresh_state", NOTHING, &[NOT_REFUSED]),
     ("fresh_state", STATE_SPACE, &[18]),
     ("run_steps", NOTHING, &[NOT_REFUSED]),
     ("run_steps", RULES, &[10, 11, 12, 13, 14]),
-    ("run_steps", STATE, &[10, 11, 15, 16, 17]),
+    ("run_steps", STATE, &[10, 11, 15, 16, 17, 51]),
     ("run_steps", STEPS_TEXT, &[10, 19]),
     ("run_steps", OUTPUT_SPACE, &[18]),
     ("run_steps", STATE_SPACE, &[18]),
@@ -130,13 +147,12 @@ impl Counts {
         };
         self.add((ANSWER, NOTHING, number));
         self.add((STEP, step.name(), number));
+        self.on_loan(step, number, &outcome.state);
         match outcome.answer {
             Answer::Yes { ended, .. } => self.ended(step, ended, outcome),
             Answer::No { number: 30, rule, .. } => {
-                self.add((BROKEN, rules[rule as usize - 1].family(), 0));
-                if outcome.broken >= 2 {
-                    self.add((SEVERAL_BROKEN, NOTHING, 0));
-                }
+                let target = step.target(&outcome.state);
+                self.broken(&rules[rule as usize - 1], outcome.broken, target);
             }
             Answer::No { .. } => return,
         }
@@ -145,10 +161,49 @@ impl Counts {
         }
     }
 
+    /// What a step met that loans alone bring about.
+    fn on_loan(&mut self, step: &Step, number: u64, state: &State) {
+        let kind = match *step {
+            Step::Assign { user, role } if number == 24 && !state.is_assigned(user, role) => {
+                (ON_LOAN, ASSIGN_REFUSED, 0)
+            }
+            Step::Lend { borrower, role, .. }
+                if number == 24 && !state.is_assigned(borrower, role) =>
+            {
+                (ON_LOAN, LEND_REFUSED, 0)
+            }
+            Step::Activate { session, role }
+                if number == NOT_REFUSED
+                    && !state.is_assigned(state.sessions[&session].user, role) =>
+            {
+                (ON_LOAN, ACTIVATED, 0)
+            }
+            Step::Withdraw { user, role } if number == 27 && !state.is_active_for(user, role) => {
+                (LENT_OUT, NOTHING, 0)
+            }
+            Step::Lend { .. } if number == NOT_REFUSED && state.loans.len() == MOST_LOANS => {
+                (MOST_LOANS_RUN, NOTHING, 0)
+            }
+            _ => return,
+        };
+        self.add(kind);
+    }
+
+    fn broken(&mut self, rule: &Rule, broken: usize, target: State) {
+        self.add((BROKEN, rule.family(), 0));
+        if broken >= 2 {
+            self.add((SEVERAL_BROKEN, NOTHING, 0));
+        }
+        if rule.holds(&State { loans: BTreeMap::new(), ..target }) {
+            self.add((BROKEN_BY_LOANS, rule.family(), 0));
+        }
+    }
+
     fn ended(&mut self, step: &Step, ended: u64, outcome: &Outcome) {
         if !step.is_event() {
             return;
         }
+        self.ended_with_loans(step, outcome);
         if ended >= 2 {
             self.add((ENDED, step.name(), 0));
         }
@@ -157,6 +212,19 @@ impl Counts {
         }
         if outcome.ending.rounds >= 2 {
             self.add((ENDED_IN_ROUNDS, step.name(), 0));
+        }
+    }
+
+    fn ended_with_loans(&mut self, step: &Step, outcome: &Outcome) {
+        if outcome.ending.loans == 0 {
+            return;
+        }
+        self.add((LOAN_ENDED, step.name(), 0));
+        if outcome.ending.closed > 0 {
+            self.add((CLOSED, step.name(), 0));
+        }
+        if outcome.ending.closed > 0 && outcome.ending.rounds > 0 {
+            self.add((CLOSED_THEN_ENDED, step.name(), 0));
         }
     }
 
@@ -185,7 +253,8 @@ fn written((group, name, number): &Kind) -> String {
 }
 
 fn kinds_to_meet() -> Vec<Kind> {
-    let mut kinds: Vec<Kind> = vec![(SEVERAL_BROKEN, NOTHING, 0)];
+    let mut kinds: Vec<Kind> =
+        vec![(SEVERAL_BROKEN, NOTHING, 0), (LENT_OUT, NOTHING, 0), (MOST_LOANS_RUN, NOTHING, 0)];
     for (call, text, numbers) in CALLS {
         kinds.extend(numbers.iter().map(|&number| (call, text, number)));
     }
@@ -199,6 +268,11 @@ fn kinds_to_meet() -> Vec<Kind> {
     for event in EVENTS {
         kinds.extend([ENDED, ENDED_SEARCHED, ENDED_IN_ROUNDS].map(|group| (group, event, 0)));
     }
+    for event in EVENTS_THAT_END_LOANS {
+        kinds.extend([LOAN_ENDED, CLOSED, CLOSED_THEN_ENDED].map(|group| (group, event, 0)));
+    }
+    kinds.extend([ASSIGN_REFUSED, LEND_REFUSED, ACTIVATED].map(|name| (ON_LOAN, name, 0)));
+    kinds.extend(FAMILIES_OF_HELD_ROLES.map(|family| (BROKEN_BY_LOANS, family, 0)));
     kinds.extend(DAMAGES.iter().map(|&(damage, _)| (DAMAGED, damage, 0)));
     kinds
 }

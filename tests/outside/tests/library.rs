@@ -1,16 +1,10 @@
 //! The library beside the rest of the repository: the header, the example day, the vectors.
 
+use outside::vectors::{parts, vectors};
 use pitch_gate::*;
 
 const HEADER: &str = include_str!("../../../library/include/pitch_gate.h");
 const DAY: &[u8] = include_bytes!("../../../library/examples/day.in");
-
-/// Rules and steps of an input as the program takes it.
-fn parts(input: &[u8]) -> Option<(&[u8], &[u8])> {
-    const LINE: &[u8] = b"(steps)\n";
-    let place = input.windows(LINE.len()).position(|window| window == LINE)?;
-    Some((&input[..place], &input[place + LINE.len()..]))
-}
 
 #[test]
 fn a_state_handed_over_gives_the_same_as_one_run() {
@@ -34,13 +28,6 @@ fn a_saved_text_that_is_cut_can_be_accepted() {
     let cuts = state.iter().enumerate().filter(|(_, byte)| **byte == b'\n').map(|(place, _)| place + 1);
     let accepted = cuts.filter(|cut| check_state(b"", &state[..*cut]).is_ok()).count();
     assert_eq!(accepted, state.iter().filter(|byte| **byte == b'\n').count());
-}
-
-/// The files of a folder of vectors whose names end so.
-fn vectors(folder: &str, end: &str) -> Vec<std::path::PathBuf> {
-    let folder = format!("{}/../../vectors/{folder}", env!("CARGO_MANIFEST_DIR"));
-    let paths = std::fs::read_dir(folder).unwrap().map(|entry| entry.unwrap().path());
-    paths.filter(|path| path.extension().is_some_and(|found| found == end)).collect()
 }
 
 /// Each rule list and each saved state of the vectors: the same bytes, or the refusal that checking it gives.

@@ -3,20 +3,12 @@
 
 use outside::plain::form::Bad;
 use outside::plain::largest::{by_every_part, by_rounds};
-use outside::plain::program::{read_input, respond};
+use outside::plain::program::read_input;
 use outside::plain::rule_text::read_rules;
 use outside::plain::state_text::read_state;
+use worked::answers;
 
-/// The answers, one form after another.
-fn answers(rules: &[&str], steps: &[&str]) -> Vec<String> {
-    let numbered = rules.iter().zip(1..);
-    let rules: String =
-        numbered.map(|(rule, number)| format!("(rule {number} {rule})\n")).collect();
-    let steps: String = steps.iter().map(|step| format!("{step}\n")).collect();
-    let input = format!("{rules}(steps)\n{steps}");
-    let output = String::from_utf8(respond(input.as_bytes(), &mut |_, _, _| {})).unwrap();
-    output.lines().map(str::to_string).collect()
-}
+mod worked;
 
 #[test]
 fn the_listing() {

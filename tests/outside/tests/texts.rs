@@ -174,6 +174,56 @@ fn saved_lines_without_what_they_stand_on() {
     assert_eq!(saved("(now 0)\n(open 0 0)\n(place 0 0 0"), (10, 3));
 }
 
+/// Saved loans of role 0 by user 0, to as many others.
+fn saved_loans(number: usize) -> String {
+    let loans = (1..=number).map(|borrower| format!("(loan 0 {borrower} 0 100)\n"));
+    "(now 0)\n(assigned 0 0)\n".to_string() + &loans.collect::<String>()
+}
+
+#[test]
+fn saved_loans_and_what_they_stand_on() {
+    let start = "(now 9)\n(assigned 5 1)\n(assigned 7 1)\n(granted 1 1)\n(loan 5 6 1 10)\n";
+    let after = |lines: &str| saved(&format!("{start}{lines}"));
+    assert_eq!(after("(loan 5 8 1 3155759999)\n(open 0 6)\n(active 0 1)\n"), (0, 0));
+    assert_eq!(after("(loan 5 8 1)\n"), (10, 6));
+    assert_eq!(after("(loan 5 8 1 010)\n"), (10, 6));
+    assert_eq!(after("(loan 64 8 1 10)\n"), (11, 6));
+    assert_eq!(after("(loan 5 64 1 10)\n"), (11, 6));
+    assert_eq!(after("(loan 5 8 32 10)\n"), (11, 6));
+    assert_eq!(after("(loan 5 8 1 3155760000)\n"), (11, 6));
+    assert_eq!(after("(loan 5 6 1 11)\n"), (15, 6));
+    assert_eq!(after("(loan 4 6 1 1)\n"), (15, 6));
+    assert_eq!(after("(granted 2 2)\n"), (15, 6));
+    assert_eq!(after("(open 0 6)\n(loan 7 8 1 10)\n"), (15, 7));
+    assert_eq!(after("(loan 6 8 1 10)\n"), (16, 6));
+    assert_eq!(after("(loan 7 6 1 10)\n"), (16, 6));
+    assert_eq!(after("(loan 7 7 1 10)\n"), (16, 6));
+    assert_eq!(after("(loan 5 7 1 10)\n"), (16, 6));
+    assert_eq!(after("(loan 5 8 1 9)\n"), (16, 6));
+    assert_eq!(after("(open 0 8)\n(active 0 1)\n"), (16, 7));
+}
+
+#[test]
+fn a_thirty_third_saved_loan() {
+    assert_eq!(saved(&saved_loans(32)), (0, 0));
+    assert_eq!(saved(&saved_loans(33)), (51, 35));
+    assert_eq!(saved(&(saved_loans(33) + "(")), (51, 35));
+    for (line, number) in [
+        ("(loan 0 33 0)\n", 10),
+        ("(loan 0 33 0 3155760000)\n", 11),
+        ("(loan 0 5 0 0)\n", 15),
+        ("(loan 0 33 0 0)\n", 16),
+        ("(loan 1 33 0 100)\n", 16),
+        ("(loan 0 33 0 1)\n", 51),
+    ] {
+        assert_eq!(saved(&(saved_loans(32) + line)), (number, 35), "{line}");
+    }
+    let rules = read_rules(b"(rule 1 (max-users 0 1))\n").unwrap();
+    let refusal = |number| read_state(&rules, saved_loans(number).as_bytes()).unwrap_err();
+    assert_eq!(refusal(32), Bad { number: 17, place: 1 });
+    assert_eq!(refusal(33), Bad { number: 51, place: 35 });
+}
+
 #[test]
 fn a_saved_state_that_breaks_rules() {
     let rules = b"(rule 1 (max-roles 2))\n(rule 2 (max-users 1 0))\n(rule 3 (max-roles 0))\n";
@@ -186,6 +236,7 @@ fn a_saved_state_that_breaks_rules() {
 fn steps_have_no_ranges_in_their_text() {
     assert!(steps_are_read(""));
     assert!(steps_are_read("(clock 9999999999)\n(move 99 -9999999999 0)\n"));
+    assert!(steps_are_read("(lend 64 64 32 9999999999)\n(recall 64 9999999999 32)\n"));
     for text in [
         "(clock 99999999999)\n",
         "(clock -1)\n",
@@ -198,6 +249,12 @@ fn steps_have_no_ranges_in_their_text() {
         "(lost 1) \n",
         " (lost 1)\n",
         "(lost 1)\r\n",
+        "(lend 1 2 3)\n",
+        "(lend 1 2 3 4 5)\n",
+        "(lend 1 2 3 -4)\n",
+        "(recall 1 2)\n",
+        "(recall 1 2 3 4)\n",
+        "(loan 1 2 3 4)\n",
     ] {
         assert_eq!(read_steps(text.as_bytes()), Err(Bad { number: 10, place: 1 }), "{text}");
     }

@@ -1,6 +1,8 @@
 //! The cases of every run: edges of numbers, longest inputs, the fullest state.
 
+use super::loans::compare_loans;
 use super::sweeps::{calendar_sweep, place_sweep, Sweep};
+use super::vectors::compare_vectors;
 use super::{input, STEPS_LINE};
 use crate::compare::{Compared, Comparison};
 use crate::generate::edges::{
@@ -13,19 +15,16 @@ use crate::plain::state_text::write_state;
 const FRESH: &[u8] = b"(now 0)\n";
 /// Before a line that has the number 1 too, so that 12 meets what comes before and after it.
 const FIRST_RULE: &[u8] = b"(rule 1 (max-roles 0))\n";
-const LISTING: &str =
-    "(rule 1 (needs 2 1))\n(rule 2 (apart 1 3))\n(steps)\n(assign 5 1)\n(assign 5 3)\n\
-    (assign 6 2)\n(open 0 5)\n(open 1 6)\n(activate 1 2)\n(activate 0 1)\n(activate 1 2)\n\
-    (deactivate 0 1)\n(close 0)\n(clock 0)\n";
 
 pub fn compare_always(comparison: &mut Comparison) -> Compared {
     comparison.fresh_state()?;
-    comparison.respond(LISTING.as_bytes())?;
+    compare_vectors(comparison)?;
     compare_number_edges(comparison)?;
     compare_long_rule_lists(comparison)?;
     compare_long_inputs(comparison)?;
     compare_long_steps(comparison)?;
     compare_fullest_state(comparison)?;
+    compare_loans(comparison)?;
     compare_sweep(comparison, calendar_sweep())?;
     compare_sweep(comparison, place_sweep())
 }
@@ -119,7 +118,9 @@ fn compare_fullest_state(comparison: &mut Comparison) -> Compared {
     }
     comparison.check_state(kept, &state)?;
     let steps = b"(close 31)\n(withdraw 63 2)\n(take 31 31)\n(finish 31)\n(deactivate 0 2)\n\
-        (move 7 -1000000 1000000)\n(clock 3155759999)\n(open 31 62)\n(activate 31 31)\n";
+        (move 7 -1000000 1000000)\n(recall 63 62 9)\n(lend 61 62 9 3155759999)\n\
+        (lend 60 62 8 3155759999)\n(clock 3155759999)\n(open 31 62)\n(activate 31 31)\n";
+    comparison.run_steps(kept, &state, b"")?;
     comparison.run_steps(kept, &state, steps)
 }
 

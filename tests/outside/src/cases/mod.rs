@@ -1,8 +1,10 @@
 //! The cases: those of a seed, and those of every run.
 
 pub mod always;
+mod loans;
 mod seeded;
 mod sweeps;
+mod vectors;
 
 pub use always::compare_always;
 pub use seeded::compare_seed;

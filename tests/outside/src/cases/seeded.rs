@@ -3,6 +3,7 @@
 use super::input;
 use crate::compare::{Compared, Comparison};
 use crate::generate::damage::DAMAGES;
+use crate::generate::loans::with_too_many_loans;
 use crate::generate::random::Random;
 use crate::generate::rule_lists::rule_list;
 use crate::generate::states::{drawn_state, grown_state};
@@ -35,6 +36,8 @@ struct Texts {
     start: Vec<u8>,
     steps: Vec<u8>,
     end: Vec<u8>,
+    /// Refused with 51, where any role is assigned.
+    with_too_many_loans: Vec<u8>,
     /// The number of steps.
     length: usize,
 }
@@ -57,6 +60,7 @@ impl Texts {
             start: write_state(&start),
             steps: write_steps(&steps),
             end: write_state(&end),
+            with_too_many_loans: write_state(&with_too_many_loans(random, &end)),
             length,
         }
     }
@@ -71,6 +75,7 @@ impl Texts {
         comparison.check_state(&self.rules, &self.end)?;
         comparison.check_state(&self.other_rules, &self.start)?;
         comparison.check_state(&self.other_rules, &self.end)?;
+        comparison.check_state(&self.rules, &self.with_too_many_loans)?;
         comparison.run_steps(&self.other_rules, &self.end, &pieces[0])
     }
 
@@ -80,15 +85,18 @@ impl Texts {
         let rules = damaged(comparison, random, &self.rules);
         let start = damaged(comparison, random, &self.start);
         let end = damaged(comparison, random, &self.end);
+        let with_too_many_loans = damaged(comparison, random, &self.with_too_many_loans);
         let steps = damaged(comparison, random, &self.steps);
         comparison.check_rules(&rules)?;
         comparison.check_state(&rules, &start)?;
         comparison.check_state(&self.rules, &start)?;
         comparison.check_state(&self.rules, &end)?;
-        match random.below(4) {
+        comparison.check_state(&self.rules, &with_too_many_loans)?;
+        match random.below(5) {
             0 => comparison.run_steps(&rules, &start, &steps),
             1 => comparison.run_steps(&rules, &self.start, &self.steps),
             2 => comparison.run_steps(&self.rules, &end, &steps),
+            3 => comparison.run_steps(&self.rules, &with_too_many_loans, &steps),
             _ => comparison.run_steps(&self.rules, &self.start, &steps),
         }
     }

@@ -1,6 +1,6 @@
 //! The library against the plain gate, byte for byte.
 
-mod expected;
+pub mod expected;
 mod space;
 
 use crate::counts::{Counts, INPUT, OUTPUT_SPACE, RULES, STATE, STATE_SPACE, STEPS_TEXT};

@@ -1,11 +1,12 @@
 //! Damaged texts: inputs, rule lists, saved states and steps alike.
 
+use super::loan_damage::{loan_added, loan_changed};
 use super::random::Random;
 use std::ops::Range;
 
 type Damage = fn(&mut Random, &[u8]) -> Vec<u8>;
 
-pub const DAMAGES: [(&str, Damage); 26] = [
+pub const DAMAGES: [(&str, Damage); 28] = [
     ("bit flipped", bit_flipped),
     ("byte replaced", byte_replaced),
     ("byte inserted", byte_inserted),
@@ -32,6 +33,8 @@ pub const DAMAGES: [(&str, Damage); 26] = [
     ("empty", empty),
     ("(steps) missing", steps_line_missing),
     ("(steps) added", steps_line_added),
+    ("loan changed", loan_changed),
+    ("loan added", loan_added),
 ];
 
 /// Values at and just past the ends of the ranges.
@@ -78,7 +81,7 @@ pub const EDGE_VALUES: [u64; 40] = [
     9_999_999_999,
 ];
 
-const WORDS: [&str; 38] = [
+const WORDS: [&str; 41] = [
     "rule",
     "before",
     "max-users",
@@ -117,10 +120,13 @@ const WORDS: [&str; 38] = [
     "close",
     "lost",
     "clock",
+    "loan",
+    "lend",
+    "recall",
 ];
 
 /// The runs of bytes that the test accepts.
-fn runs(text: &[u8], belongs: impl Fn(u8) -> bool) -> Vec<Range<usize>> {
+pub fn runs(text: &[u8], belongs: impl Fn(u8) -> bool) -> Vec<Range<usize>> {
     let mut found: Vec<Range<usize>> = Vec::new();
     for (index, &byte) in text.iter().enumerate() {
         match found.last_mut() {
@@ -140,7 +146,7 @@ pub fn replaced(text: &[u8], range: Range<usize>, with: &[u8]) -> Vec<u8> {
     [&text[..range.start], with, &text[range.end..]].concat()
 }
 
-fn at_any_number(
+pub fn at_any_number(
     random: &mut Random,
     text: &[u8],
     change: impl Fn(&mut Random, &[u8]) -> Vec<u8>,

@@ -3,6 +3,8 @@
 
 pub mod damage;
 pub mod edges;
+mod loan_damage;
+pub mod loans;
 pub mod random;
 pub mod rule_lists;
 pub mod states;

@@ -1,5 +1,6 @@
 //! States drawn at random, not reached by steps.
 
+use super::loans::add_some_loans;
 use super::random::Random;
 use super::step_lists;
 use super::world::World;
@@ -14,7 +15,7 @@ pub fn grown_state(random: &mut Random, world: &World, rules: &[Rule]) -> State 
     step_lists::step_list(random, world, rules, &State::fresh(), length).1
 }
 
-/// Each line that could be there is there with the same chance.
+/// Each line that could be there is there with the same chance, but for the loans.
 pub fn drawn_state(random: &mut Random, world: &World) -> State {
     let chance = 1 + random.below(if world.is_wide() { 3 } else { 100 });
     let mut state = State { time: world.start, ..State::fresh() };
@@ -24,14 +25,15 @@ pub fn drawn_state(random: &mut Random, world: &World) -> State {
         let permissions = world.permissions.iter().filter(|_| random.percent(chance));
         state.granted.extend(permissions.map(|&permission| (role, permission)));
     }
+    add_some_loans(random, &world.users, &mut state);
     for &session in &world.sessions {
         if random.percent(chance.max(50)) {
             let user = *random.pick(&world.users);
             let position = random.percent(60).then(|| drawn_position(random));
             state.sessions.insert(session, Session { user, position });
-            let roles = state.assigned.range((user, 0)..(user + 1, 0));
+            let roles = state.roles_held_by(user).into_iter();
             let active = roles.filter(|_| random.percent(chance));
-            state.active.extend(active.map(|&(_, role)| (session, role)));
+            state.active.extend(active.map(|role| (session, role)));
         }
     }
     for &object in &world.objects {
@@ -43,15 +45,22 @@ pub fn drawn_state(random: &mut Random, world: &World) -> State {
     state
 }
 
-/// Every line that a saved state can have, with the longest numbers.
+/// The longest saved state: every user holds every role, one of them all by loans, which have
+/// longer lines than assigned roles.
 pub fn fullest_state() -> State {
-    let user = *USERS.end();
+    let (lender, borrower) = (*USERS.end(), *USERS.end() - 1);
     let position = Some(Position { x: *METRES.start(), y: *METRES.start() });
+    let user_of = |session| if session % 2 == 0 { lender } else { borrower };
     State {
-        time: *TIMES.end(),
-        assigned: pairs(USERS.count(), ROLES.count()).collect(),
+        time: *TIMES.end() - 1,
+        assigned: pairs(USERS.count(), ROLES.count())
+            .filter(|&(user, _)| user != borrower)
+            .collect(),
         granted: pairs(ROLES.count(), PERMISSIONS.count()).collect(),
-        sessions: SESSIONS.map(|session| (session, Session { user, position })).collect(),
+        loans: ROLES.map(|role| ((lender, borrower, role), *TIMES.end())).collect(),
+        sessions: SESSIONS
+            .map(|session| (session, Session { user: user_of(session), position }))
+            .collect(),
         active: pairs(SESSIONS.count(), ROLES.count()).collect(),
         did: pairs(OBJECTS.count(), PERMISSIONS.count())
             .flat_map(|(object, permission)| USERS.map(move |user| (object, permission, user)))

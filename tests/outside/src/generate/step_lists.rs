@@ -1,5 +1,6 @@
 //! Steps that make sense in the state they meet, most of the time.
 
+use super::loans::loan_end;
 use super::random::Random;
 use super::rule_lists::{metre, time_at_an_edge};
 use super::world::World;
@@ -46,13 +47,15 @@ enum Kind {
     Move,
     Lost,
     Clock,
+    Lend,
+    Recall,
 }
 
 /// How often each kind comes: requests that build up more often than events
 /// that end.
-const KINDS: [(Kind, usize); 13] = [
+const KINDS: [(Kind, usize); 15] = [
     (Kind::Assign, 12),
-    (Kind::Withdraw, 3),
+    (Kind::Withdraw, 4),
     (Kind::Grant, 6),
     (Kind::Take, 2),
     (Kind::Open, 9),
@@ -64,6 +67,8 @@ const KINDS: [(Kind, usize); 13] = [
     (Kind::Move, 8),
     (Kind::Lost, 2),
     (Kind::Clock, 4),
+    (Kind::Lend, 8),
+    (Kind::Recall, 3),
 ];
 
 impl Source<'_> {
@@ -133,6 +138,8 @@ impl Source<'_> {
                 Some(Step::Move { session, position: self.position() })
             }
             Kind::Open => self.new_session(),
+            Kind::Lend => self.new_loan(),
+            Kind::Recall => self.running_loan(),
             _ => self.not_refused(kind),
         }
     }
@@ -149,13 +156,42 @@ impl Source<'_> {
         Some(Step::Withdraw { user, role })
     }
 
-    /// A user who is assigned a role is chosen more often than another.
+    /// A user who holds a role is chosen more often than another.
     fn new_session(&mut self) -> Option<Step> {
         let step = self.not_refused(Kind::Open)?;
         let Step::Open { session, .. } = step else { return Some(step) };
-        let held = Vec::from_iter(&self.state.assigned);
-        let holder = self.random.pick_any(&held).map(|&(user, _)| Step::Open { session, user });
+        let holders: Vec<i64> = if self.random.percent(60) || self.state.loans.is_empty() {
+            self.state.assigned.iter().map(|&(user, _)| user).collect()
+        } else {
+            self.state.loans.keys().map(|&(_, borrower, _)| borrower).collect()
+        };
+        let holder = self.random.pick_any(&holders).map(|user| Step::Open { session, user });
         Some(holder.unwrap_or(step))
+    }
+
+    /// One whose role is active is chosen more often than another.
+    fn running_loan(&mut self) -> Option<Step> {
+        let mut loans = Vec::from_iter(self.state.loans.keys().copied());
+        if self.random.percent(60) {
+            loans.retain(|&(_, borrower, role)| self.state.is_active_for(borrower, role));
+        }
+        let (lender, borrower, role) = self.random.pick_any(&loans)?;
+        Some(Step::Recall { lender, borrower, role })
+    }
+
+    /// An assigned role, for a user of the world who does not hold it; now and then too late.
+    fn new_loan(&mut self) -> Option<Step> {
+        let assigned = Vec::from_iter(&self.state.assigned);
+        let &(lender, role) = self.random.pick_any(&assigned)?;
+        let users = self.world.users.iter().copied();
+        let others: Vec<i64> = users.filter(|&user| !self.state.is_held(user, role)).collect();
+        let borrower = self.random.pick_any(&others)?;
+        let until = if self.random.percent(10) {
+            self.until()
+        } else {
+            loan_end(self.random, self.state.time)
+        };
+        Some(Step::Lend { lender, borrower, role, until })
     }
 
     fn open_session(&mut self) -> Option<i64> {
@@ -175,11 +211,8 @@ impl Source<'_> {
     fn possible_activation(&mut self) -> Option<Step> {
         let session = self.open_session()?;
         let user = self.state.sessions[&session].user;
-        let assigned = self.state.assigned.range((user, 0)..(user + 1, 0));
-        let roles: Vec<i64> = assigned
-            .map(|&(_, role)| role)
-            .filter(|&role| !self.state.is_active(session, role))
-            .collect();
+        let held = self.state.roles_held_by(user).into_iter();
+        let roles: Vec<i64> = held.filter(|&role| !self.state.is_active(session, role)).collect();
         self.random.pick_any(&roles).map(|role| Step::Activate { session, role })
     }
 
@@ -197,6 +230,7 @@ impl Source<'_> {
     fn any(&mut self, kind: Kind) -> Step {
         let world = self.world;
         let user = *self.random.pick(&world.users);
+        let other = *self.random.pick(&world.users);
         let role = *self.random.pick(&world.roles);
         let permission = *self.random.pick(&world.permissions);
         let session = *self.random.pick(&world.sessions);
@@ -215,11 +249,28 @@ impl Source<'_> {
             Kind::Move => Step::Move { session, position: self.position() },
             Kind::Lost => Step::Lost { session },
             Kind::Clock => Step::Clock { time: self.time() },
+            Kind::Lend => Step::Lend { lender: user, borrower: other, role, until: self.until() },
+            Kind::Recall => Step::Recall { lender: user, borrower: other, role },
+        }
+    }
+
+    /// Half of the time one that has come already.
+    fn until(&mut self) -> i64 {
+        let now = self.state.time;
+        match self.random.below(4) {
+            0 => now,
+            1 => (now - 1).max(*TIMES.start()),
+            _ => loan_end(self.random, now),
         }
     }
 
     fn time(&mut self) -> i64 {
         let now = self.state.time;
+        let ends = Vec::from_iter(self.state.loans.values().copied());
+        if !ends.is_empty() && self.random.percent(40) {
+            let end = *self.random.pick(&ends) + self.random.between(-1, 1);
+            return end.min(*TIMES.end());
+        }
         let terms: Vec<_> = self.rules.iter().filter_map(term_of).collect();
         let time = match self.random.below(20) {
             0 => now - 1,
@@ -276,6 +327,11 @@ impl Source<'_> {
             Step::Clock { .. } => {
                 Step::Clock { time: *self.random.pick(&[TIMES.end() + 1, 9_999_999_999]) }
             }
+            Step::Lend { lender, borrower, role, .. } => {
+                let until = *self.random.pick(&[TIMES.end() + 1, 9_999_999_999]);
+                Step::Lend { lender, borrower, role, until }
+            }
+            Step::Recall { lender, role, .. } => Step::Recall { lender, borrower: outside, role },
         }
     }
 }
@@ -297,7 +353,13 @@ fn side_of(rule: &Rule) -> Option<Side> {
 fn ends_roles(kind: Kind) -> bool {
     matches!(
         kind,
-        Kind::Withdraw | Kind::Take | Kind::Deactivate | Kind::Close | Kind::Lost | Kind::Clock
+        Kind::Withdraw
+            | Kind::Take
+            | Kind::Deactivate
+            | Kind::Close
+            | Kind::Lost
+            | Kind::Clock
+            | Kind::Recall
     )
 }
 

@@ -18,7 +18,7 @@ pub struct Outcome {
     pub state: State,
     /// For a 30, the number of rules broken in the target.
     pub broken: usize,
-    /// For an event, how its pairs were ended.
+    /// What an event ended, and how.
     pub ending: Ending,
 }
 
@@ -49,8 +49,10 @@ pub fn decide(rules: &[Rule], state: &State, step: &Step) -> Outcome {
     let selected = number_selected(rules, step);
     let target = step.target(state);
     if step.is_event() {
+        let closed = state.active.difference(&target.active).count();
+        let loans = state.loans.len() - target.loans.len();
         let largest = largest_part(rules, target);
-        return grant(state, largest.state, selected, largest.ending);
+        return grant(state, largest.state, selected, Ending { closed, loans, ..largest.ending });
     }
     let broken = broken_rules(rules, &target);
     match broken.first() {

@@ -15,9 +15,13 @@ pub struct Largest {
     pub ending: Ending,
 }
 
-/// How the largest part was found.
+/// What an event ended, and how the largest part was found.
 #[derive(Clone, Copy, Default)]
 pub struct Ending {
+    /// Loans that are no longer in the target.
+    pub loans: usize,
+    /// Pairs that are no longer in the target.
+    pub closed: usize,
     /// Rounds in which a pair was ended.
     pub rounds: usize,
     /// Every part was looked at.
@@ -38,7 +42,7 @@ pub fn largest_part(rules: &[Rule], target: State) -> Largest {
     }
     let state = with_active(&target, kept);
     assert!(every_rule_holds(rules, &state), "after the rounds on {target:?} under {rules:?}");
-    Largest { state, ending: Ending { rounds, searched } }
+    Largest { state, ending: Ending { rounds, searched, ..Ending::default() } }
 }
 
 fn can_be_searched(rules: &[Rule], target: &State) -> bool {

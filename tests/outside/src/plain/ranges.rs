@@ -18,4 +18,5 @@ pub const MONTHS: RangeInclusive<i64> = 1..=12;
 pub const WEEKDAYS: RangeInclusive<i64> = 1..=7;
 pub const WEEKS_OF_MONTH: RangeInclusive<i64> = 1..=5;
 pub const INTERVALS: RangeInclusive<i64> = 1..=1000;
+pub const MOST_LOANS: usize = 32;
 pub const LONGEST_INPUT: usize = 65_536;

@@ -1,4 +1,5 @@
-//! "Rules": the full test of one rule over a state.
+//! "Rules": the full test of one rule over a state. 2026-01: "max-users, max-roles
+//! and apart read held, before reads assigned only".
 
 use super::calendar::Term;
 use super::places::{Shape, Side};
@@ -29,15 +30,17 @@ impl Rule {
             Rule::Before { role, required } => each(USERS, |user| {
                 !state.is_assigned(user, role) || state.is_assigned(user, required)
             }),
-            Rule::MaxUsers { role, limit } => keeps(state.users_of(role), limit),
-            Rule::MaxRoles { limit } => each(USERS, |user| keeps(state.roles_of(user), limit)),
+            Rule::MaxUsers { role, limit } => keeps(state.users_holding(role), limit),
+            Rule::MaxRoles { limit } => {
+                each(USERS, |user| keeps(state.roles_held_by(user).len(), limit))
+            }
             Rule::MaxPermissions { role, limit } => keeps(state.permissions_of(role), limit),
             Rule::MaxActive { limit } => {
                 each(SESSIONS, |session| keeps(state.active_in(session).count(), limit))
             }
-            Rule::Apart { role, other } => each(USERS, |user| {
-                !(state.is_assigned(user, role) && state.is_assigned(user, other))
-            }),
+            Rule::Apart { role, other } => {
+                each(USERS, |user| !(state.is_held(user, role) && state.is_held(user, other)))
+            }
             Rule::ApartActive { role, other } => each(USERS, |user| {
                 !(state.is_active_for(user, role) && state.is_active_for(user, other))
             }),

@@ -9,7 +9,10 @@ pub fn number_selected(rules: &[Rule], step: &Step) -> u64 {
 
 pub fn selects(step: &Step, rule: &Rule) -> bool {
     match *step {
-        Step::Assign { role, .. } => selected_by_assign(role, rule),
+        Step::Assign { role: given, .. } => {
+            matches!(*rule, Rule::Before { role, .. } if role == given)
+                || limits_who_holds(given, rule)
+        }
         Step::Withdraw { role, .. } => {
             matches!(*rule, Rule::Before { required, .. } if required == role)
         }
@@ -32,14 +35,17 @@ pub fn selects(step: &Step, rule: &Rule) -> bool {
             matches!(rule, Rule::At { .. } | Rule::Needs { .. })
         }
         Step::Clock { .. } => matches!(rule, Rule::During { .. } | Rule::Needs { .. }),
+        Step::Lend { role, .. } => limits_who_holds(role, rule),
+        Step::Recall { .. } => matches!(rule, Rule::Needs { .. }),
     }
 }
 
-fn selected_by_assign(given: i64, rule: &Rule) -> bool {
+/// "max-users r, max-roles and apart naming r"
+fn limits_who_holds(held: i64, rule: &Rule) -> bool {
     match *rule {
-        Rule::Before { role, .. } | Rule::MaxUsers { role, .. } => role == given,
+        Rule::MaxUsers { role, .. } => role == held,
         Rule::MaxRoles { .. } => true,
-        Rule::Apart { role, other } => role == given || other == given,
+        Rule::Apart { role, other } => role == held || other == held,
         _ => false,
     }
 }

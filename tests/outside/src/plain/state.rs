@@ -11,6 +11,8 @@ pub struct State {
     pub assigned: BTreeSet<(i64, i64)>,
     /// (role, permission)
     pub granted: BTreeSet<(i64, i64)>,
+    /// (lender, borrower, role), and until when.
+    pub loans: BTreeMap<(i64, i64, i64), i64>,
     /// The open sessions.
     pub sessions: BTreeMap<i64, Session>,
     /// (session, role)
@@ -34,12 +36,27 @@ impl State {
         self.assigned.contains(&(user, role))
     }
 
-    pub fn roles_of(&self, user: i64) -> usize {
-        self.assigned.range((user, 0)..(user + 1, 0)).count()
+    pub fn is_on_loan_to(&self, borrower: i64, role: i64) -> bool {
+        self.loans.keys().any(|&(_, other, lent)| other == borrower && lent == role)
     }
 
-    pub fn users_of(&self, role: i64) -> usize {
-        USERS.filter(|&user| self.is_assigned(user, role)).count()
+    pub fn is_lent_out_by(&self, lender: i64, role: i64) -> bool {
+        self.loans.keys().any(|&(other, _, lent)| other == lender && lent == role)
+    }
+
+    /// 2026-01: "A role is held when assigned or on loan"
+    pub fn is_held(&self, user: i64, role: i64) -> bool {
+        self.is_assigned(user, role) || self.is_on_loan_to(user, role)
+    }
+
+    pub fn roles_held_by(&self, user: i64) -> BTreeSet<i64> {
+        let assigned = self.assigned.range((user, 0)..(user + 1, 0)).map(|&(_, role)| role);
+        let loans = self.loans.keys().filter(|&&(_, borrower, _)| borrower == user);
+        assigned.chain(loans.map(|&(_, _, role)| role)).collect()
+    }
+
+    pub fn users_holding(&self, role: i64) -> usize {
+        USERS.filter(|&user| self.is_held(user, role)).count()
     }
 
     pub fn carries(&self, role: i64, permission: i64) -> bool {
@@ -71,6 +88,11 @@ impl State {
         self.sessions
             .iter()
             .any(|(&number, session)| session.user == user && self.is_active(number, role))
+    }
+
+    /// Whether the session is open and its user holds the role.
+    pub fn is_held_in(&self, session: i64, role: i64) -> bool {
+        self.sessions.get(&session).is_some_and(|session| self.is_held(session.user, role))
     }
 
     /// The users who did the permission on the object.

@@ -3,7 +3,7 @@
 use super::form::{lines, read_form, Bad, Form};
 use super::numbers::Numbers;
 use super::places::Position;
-use super::ranges::{OBJECTS, PERMISSIONS, ROLES, SESSIONS, TIMES, USERS};
+use super::ranges::{MOST_LOANS, OBJECTS, PERMISSIONS, ROLES, SESSIONS, TIMES, USERS};
 use super::rules::{broken_rules, Rule};
 use super::state::{Session, State};
 use std::fmt;
@@ -22,6 +22,12 @@ pub fn write_state(state: &State) -> Vec<u8> {
     saved.extend(state.assigned.iter().map(|&(user, role)| Saved::Assigned { user, role }));
     let granted = state.granted.iter();
     saved.extend(granted.map(|&(role, permission)| Saved::Granted { role, permission }));
+    saved.extend(state.loans.iter().map(|(&(lender, borrower, role), &until)| Saved::Loan {
+        lender,
+        borrower,
+        role,
+        until,
+    }));
     for (&session, Session { user, position }) in &state.sessions {
         saved.push(Saved::Open { session, user: *user });
         saved.extend(position.map(|position| Saved::Place { session, position }));
@@ -37,6 +43,7 @@ enum Saved {
     Now { time: i64 },
     Assigned { user: i64, role: i64 },
     Granted { role: i64, permission: i64 },
+    Loan { lender: i64, borrower: i64, role: i64, until: i64 },
     Open { session: i64, user: i64 },
     Place { session: i64, position: Position },
     Active { session: i64, role: i64 },
@@ -57,7 +64,7 @@ fn read_lines(text: &[u8]) -> Result<State, Bad> {
     }
 }
 
-/// "For each text line in order ... 10, 11, 15, 16"
+/// "For each text line in order ... 10, 11, 15, 16"; 2026-01: 51 "looked for after 16"
 fn read_line(line: Option<&[u8]>, last_key: Option<Key>, state: &State) -> Result<Saved, u64> {
     let mut numbers = Numbers::default();
     let form = read_form(line).ok_or(10u64)?;
@@ -72,6 +79,8 @@ fn read_line(line: Option<&[u8]>, last_key: Option<Key>, state: &State) -> Resul
         Err(15)
     } else if !saved.stands_on(state) {
         Err(16)
+    } else if saved.is_one_loan_too_many(state) {
+        Err(51)
     } else {
         Ok(saved)
     }
@@ -86,6 +95,12 @@ fn read_saved(form: &Form, numbers: &mut Numbers) -> Option<Saved> {
         [Form::Word("granted"), role, permission] => Saved::Granted {
             role: numbers.whole(role, ROLES)?,
             permission: numbers.whole(permission, PERMISSIONS)?,
+        },
+        [Form::Word("loan"), lender, borrower, role, until] => Saved::Loan {
+            lender: numbers.whole(lender, USERS)?,
+            borrower: numbers.whole(borrower, USERS)?,
+            role: numbers.whole(role, ROLES)?,
+            until: numbers.whole(until, TIMES)?,
         },
         [Form::Word("open"), session, user] => Saved::Open {
             session: numbers.whole(session, SESSIONS)?,
@@ -108,8 +123,8 @@ fn read_saved(form: &Form, numbers: &mut Numbers) -> Option<Saved> {
     })
 }
 
-/// Orders the lines. What a session has at most one of, its user and its
-/// position, is no part of it: a second such line is "out of order or twice".
+/// Orders the lines. What there is at most one of, a session's user and position
+/// and a loan's end, is no part of it: a second such line is "out of order or twice".
 type Key = (u8, i64, i64, i64);
 
 impl Saved {
@@ -118,23 +133,33 @@ impl Saved {
             Saved::Now { .. } => (0, 0, 0, 0),
             Saved::Assigned { user, role } => (1, user, role, 0),
             Saved::Granted { role, permission } => (2, role, permission, 0),
-            Saved::Open { session, .. } => (3, session, 0, 0),
-            Saved::Place { session, .. } => (3, session, 1, 0),
-            Saved::Active { session, role } => (3, session, 2, role),
-            Saved::Did { object, permission, user } => (4, object, permission, user),
+            Saved::Loan { lender, borrower, role, .. } => (3, lender, borrower, role),
+            Saved::Open { session, .. } => (4, session, 0, 0),
+            Saved::Place { session, .. } => (4, session, 1, 0),
+            Saved::Active { session, role } => (4, session, 2, role),
+            Saved::Did { object, permission, user } => (5, object, permission, user),
         }
     }
 
-    /// "place or active without its open, or role not assigned" is refused.
+    /// "place or active without its open, or role not assigned" is refused, where
+    /// assigned is held by 2026-01; so is a loan "where u isn't assigned r, v already
+    /// holds r or t is not later than now".
     fn stands_on(&self, state: &State) -> bool {
         match *self {
-            Saved::Place { session, .. } => state.is_open(session),
-            Saved::Active { session, role } => {
-                let opened = state.sessions.get(&session);
-                opened.is_some_and(|opened| state.is_assigned(opened.user, role))
+            Saved::Loan { lender, borrower, role, until } => {
+                state.is_assigned(lender, role)
+                    && !state.is_held(borrower, role)
+                    && until > state.time
             }
+            Saved::Place { session, .. } => state.is_open(session),
+            Saved::Active { session, role } => state.is_held_in(session, role),
             _ => true,
         }
+    }
+
+    /// 2026-01: "a thirty-third is 51"
+    fn is_one_loan_too_many(&self, state: &State) -> bool {
+        matches!(self, Saved::Loan { .. }) && state.loans.len() >= MOST_LOANS
     }
 
     fn add_to(self, state: &mut State) {
@@ -142,6 +167,9 @@ impl Saved {
             Saved::Now { time } => state.time = time,
             Saved::Assigned { user, role } => drop(state.assigned.insert((user, role))),
             Saved::Granted { role, permission } => drop(state.granted.insert((role, permission))),
+            Saved::Loan { lender, borrower, role, until } => {
+                state.loans.insert((lender, borrower, role), until);
+            }
             Saved::Open { session, user } => {
                 state.sessions.insert(session, Session { user, position: None });
             }
@@ -163,6 +191,9 @@ impl fmt::Display for Saved {
             Saved::Now { time } => write!(out, "(now {time})"),
             Saved::Assigned { user, role } => write!(out, "(assigned {user} {role})"),
             Saved::Granted { role, permission } => write!(out, "(granted {role} {permission})"),
+            Saved::Loan { lender, borrower, role, until } => {
+                write!(out, "(loan {lender} {borrower} {role} {until})")
+            }
             Saved::Open { session, user } => write!(out, "(open {session} {user})"),
             Saved::Place { session, position } => write!(out, "(place {session} {position})"),
             Saved::Active { session, role } => write!(out, "(active {session} {role})"),

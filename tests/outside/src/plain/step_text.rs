@@ -46,6 +46,8 @@ fn read_step_of(kind: &str, fields: &[i64]) -> Option<Step> {
         ("close", &[session]) => Step::Close { session },
         ("lost", &[session]) => Step::Lost { session },
         ("clock", &[time]) => Step::Clock { time },
+        ("lend", &[lender, borrower, role, until]) => Step::Lend { lender, borrower, role, until },
+        ("recall", &[lender, borrower, role]) => Step::Recall { lender, borrower, role },
         _ => return None,
     })
 }
@@ -71,6 +73,12 @@ impl fmt::Display for Step {
             Step::Close { session } | Step::Lost { session } => write!(out, "({name} {session})"),
             Step::Move { session, position } => write!(out, "({name} {session} {position})"),
             Step::Clock { time } => write!(out, "({name} {time})"),
+            Step::Lend { lender, borrower, role, until } => {
+                write!(out, "({name} {lender} {borrower} {role} {until})")
+            }
+            Step::Recall { lender, borrower, role } => {
+                write!(out, "({name} {lender} {borrower} {role})")
+            }
         }
     }
 }

@@ -1,7 +1,7 @@
 //! The steps of the table: what makes one refused before 30, and its target.
 
 use super::places::Position;
-use super::ranges::{METRES, OBJECTS, PERMISSIONS, ROLES, SESSIONS, TIMES, USERS};
+use super::ranges::{METRES, MOST_LOANS, OBJECTS, PERMISSIONS, ROLES, SESSIONS, TIMES, USERS};
 use super::state::{Session, State};
 
 /// The numbers are as written: any of them may be outside its range.
@@ -20,13 +20,19 @@ pub enum Step {
     Move { session: i64, position: Position },
     Lost { session: i64 },
     Clock { time: i64 },
+    Lend { lender: i64, borrower: i64, role: i64, until: i64 },
+    Recall { lender: i64, borrower: i64, role: i64 },
 }
 
 impl Step {
     pub fn is_event(&self) -> bool {
         matches!(
             self,
-            Step::Close { .. } | Step::Move { .. } | Step::Lost { .. } | Step::Clock { .. }
+            Step::Close { .. }
+                | Step::Move { .. }
+                | Step::Lost { .. }
+                | Step::Clock { .. }
+                | Step::Recall { .. }
         )
     }
 
@@ -55,6 +61,10 @@ impl Step {
                     && METRES.contains(&position.y)
             }
             Step::Clock { time } => TIMES.contains(&time),
+            Step::Lend { lender, borrower, role, until } => {
+                are_loan_numbers(lender, borrower, role) && TIMES.contains(&until)
+            }
+            Step::Recall { lender, borrower, role } => are_loan_numbers(lender, borrower, role),
         }
     }
 
@@ -64,17 +74,18 @@ impl Step {
             return Some(20);
         }
         let checks: &[(u64, bool)] = match *self {
-            Step::Assign { user, role } => &[(24, state.is_assigned(user, role))],
-            Step::Withdraw { user, role } => {
-                &[(25, !state.is_assigned(user, role)), (27, state.is_active_for(user, role))]
-            }
+            Step::Assign { user, role } => &[(24, state.is_held(user, role))],
+            Step::Withdraw { user, role } => &[
+                (25, !state.is_assigned(user, role)),
+                (27, state.is_active_for(user, role) || state.is_lent_out_by(user, role)),
+            ],
             Step::Grant { role, permission } => &[(24, state.carries(role, permission))],
             Step::Take { role, permission } => &[(25, !state.carries(role, permission))],
             Step::Open { session, .. } => &[(22, state.is_open(session))],
             Step::Activate { session, role } => &[
                 (23, !state.is_open(session)),
                 (24, state.is_active(session, role)),
-                (26, !is_assigned_to_the_user(state, session, role)),
+                (26, !state.is_held_in(session, role)),
             ],
             Step::Deactivate { session, role } => {
                 &[(23, !state.is_open(session)), (25, !state.is_active(session, role))]
@@ -88,6 +99,12 @@ impl Step {
                 &[(23, !state.is_open(session))]
             }
             Step::Clock { time } => &[(21, time < state.time)],
+            Step::Lend { lender, borrower, role, until } => {
+                &lend_checks(state, lender, borrower, role, until)
+            }
+            Step::Recall { lender, borrower, role } => {
+                &[(25, !state.loans.contains_key(&(lender, borrower, role)))]
+            }
         };
         checks.iter().find(|(_, refuses)| *refuses).map(|&(number, _)| number)
     }
@@ -116,7 +133,16 @@ impl Step {
             }
             Step::Move { session, position } => set_position(&mut target, session, Some(position)),
             Step::Lost { session } => set_position(&mut target, session, None),
-            Step::Clock { time } => target.time = time,
+            Step::Clock { time } => {
+                target.time = time;
+                end_loans(&mut target, |_, until| until <= time);
+            }
+            Step::Lend { lender, borrower, role, until } => {
+                target.loans.insert((lender, borrower, role), until);
+            }
+            Step::Recall { lender, borrower, role } => {
+                end_loans(&mut target, |loan, _| loan == (lender, borrower, role));
+            }
         }
         target
     }
@@ -136,12 +162,37 @@ impl Step {
             Step::Move { .. } => "move",
             Step::Lost { .. } => "lost",
             Step::Clock { .. } => "clock",
+            Step::Lend { .. } => "lend",
+            Step::Recall { .. } => "recall",
         }
     }
 }
 
-fn is_assigned_to_the_user(state: &State, session: i64, role: i64) -> bool {
-    state.sessions.get(&session).is_some_and(|session| state.is_assigned(session.user, role))
+fn are_loan_numbers(lender: i64, borrower: i64, role: i64) -> bool {
+    USERS.contains(&lender) && USERS.contains(&borrower) && ROLES.contains(&role)
+}
+
+/// 2026-01: "lend checks 20, 50, 24, 52, 51, 30"
+fn lend_checks(
+    state: &State,
+    lender: i64,
+    borrower: i64,
+    role: i64,
+    until: i64,
+) -> [(u64, bool); 4] {
+    [
+        (50, !state.is_assigned(lender, role)),
+        (24, state.is_held(borrower, role)),
+        (52, until <= state.time),
+        (51, state.loans.len() >= MOST_LOANS),
+    ]
+}
+
+/// 2026-01: recall and clock "themselves close every active role not held"
+fn end_loans(target: &mut State, ends: impl Fn((i64, i64, i64), i64) -> bool) {
+    target.loans.retain(|&loan, &mut until| !ends(loan, until));
+    let active = target.active.iter().copied();
+    target.active = active.filter(|&(session, role)| target.is_held_in(session, role)).collect();
 }
 
 fn set_position(target: &mut State, session: i64, position: Option<Position>) {

@@ -23,29 +23,29 @@ is-accepted-requires-2 c κs = search needs
 returns-2 : tie.Need-returns-2
 unfolding stateAccepted
 returns-2 c =
-    admission-refused (c .before .before .before .before .before .before .before .args .list) (c .before .before .before .before .before .before .before .args .t2)
-    (c .before .before .before .before .before .before .before .args .steps) (c .before .before .before .before .before .before .before .args .room)
+    admission-refused (c .before .before .before .before .before .before .before .before .args .list) (c .before .before .before .before .before .before .before .before .args .t2)
+    (c .before .before .before .before .before .before .before .before .args .steps) (c .before .before .before .before .before .before .before .before .args .room)
     (ap₂ (λ (a d : Bool). a && d)
-    (sym (c .before .before .before .before .before .before .is-accepted .ensures) ∙ not-false _ (c .before .before .before .before .before .if1 .left))
+    (sym (c .before .before .before .before .before .before .before .is-accepted .ensures) ∙ not-false _ (c .before .before .before .before .before .before .if1 .left))
     (sym (c .before .is-accepted2 .ensures) ∙ not-true _ (c .if2 .taken)))
 
 returns-3 : tie.Need-returns-3
 unfolding stateAccepted
 returns-3 c =
-    admission-full (c .before .before .before .before .before .before .before .before .args .list) (c .before .before .before .before .before .before .before .before .args .t2)
-    (c .before .before .before .before .before .before .before .before .args .steps) (c .before .before .before .before .before .before .before .before .args .room)
+    admission-full (c .before .before .before .before .before .before .before .before .before .args .list) (c .before .before .before .before .before .before .before .before .before .args .t2)
+    (c .before .before .before .before .before .before .before .before .before .args .steps) (c .before .before .before .before .before .before .before .before .before .args .room)
     (ap₂ (λ (a d : Bool). a && d)
-    (sym (c .before .before .before .before .before .before .before .is-accepted .ensures) ∙ not-false _ (c .before .before .before .before .before .before .if1 .left))
+    (sym (c .before .before .before .before .before .before .before .before .is-accepted .ensures) ∙ not-false _ (c .before .before .before .before .before .before .before .if1 .left))
     (sym (c .before .before .is-accepted2 .ensures) ∙ not-false _ (c .before .if2 .left)))
     (lt-ltb _ _ (c .if3 .taken))
 
 returns-4 : tie.Need-returns-4
 unfolding stateAccepted
 returns-4 c =
-    admission-runs (c .before .before .before .before .before .before .before .before .args .list) (c .before .before .before .before .before .before .before .before .args .t2)
-    (c .before .before .before .before .before .before .before .before .args .steps) (c .before .before .before .before .before .before .before .before .args .room)
+    admission-runs (c .before .before .before .before .before .before .before .before .before .args .list) (c .before .before .before .before .before .before .before .before .before .args .t2)
+    (c .before .before .before .before .before .before .before .before .before .args .steps) (c .before .before .before .before .before .before .before .before .before .args .room)
     (ap₂ (λ (a d : Bool). a && d)
-    (sym (c .before .before .before .before .before .before .before .is-accepted .ensures) ∙ not-false _ (c .before .before .before .before .before .before .if1 .left))
+    (sym (c .before .before .before .before .before .before .before .before .is-accepted .ensures) ∙ not-false _ (c .before .before .before .before .before .before .before .if1 .left))
     (sym (c .before .before .is-accepted2 .ensures) ∙ not-false _ (c .before .if2 .left)))
     (le-ltb _ _ (c .if3 .left))
 

@@ -224,18 +224,18 @@ held-same [] = refl
 held-same (x ∷ hs) = ap (λ (ys : List ℕ). x ∷ ys) (held-same hs)
 
 held-history : (st : State) → IsState st → IsHistory (held (st .history))
-held-history st p = SL.owed StateT.the-type StateL.the-laws st _ p .1 .1 .1 .1 .1 .0
+held-history st p = SL.owed StateT.the-type StateL.the-laws st _ p .1 .1 .1 .1 .1 .1 .0
 
 -- ---- a state taken apart, and put together
 is-configuration : (st : State) → IsState st → IsConfiguration (configurationOf st)
 is-configuration st p =
     let fields = SL.owed StateT.the-type StateL.the-laws st _ p in
-    SL.owes ConfigurationT.the-type ConfigurationL.the-laws (configurationOf st) (fields .0, (fields .1 .0, (fields .1 .1 .0, (fields .1 .1 .1 .0, (fields .1 .1 .1 .1 .0, tt)))))
+    SL.owes ConfigurationT.the-type ConfigurationL.the-laws (configurationOf st) (fields .0, (fields .1 .0, (fields .1 .1 .0, (fields .1 .1 .1 .0, (fields .1 .1 .1 .1 .0, (fields .1 .1 .1 .1 .1 .0, tt))))))
 
 is-state : (c : Configuration) (hs : List ℕ) → IsConfiguration c → IsHistory hs → IsState (stateWith c hs)
 is-state c hs p q =
     let fields = SL.owed ConfigurationT.the-type ConfigurationL.the-laws c _ p in
-    SL.owes StateT.the-type StateL.the-laws (stateWith c hs) (fields .0, (fields .1 .0, (fields .1 .1 .0, (fields .1 .1 .1 .0, (fields .1 .1 .1 .1 .0, (subst IsHistory (sym (held-same hs)) q, tt))))))
+    SL.owes StateT.the-type StateL.the-laws (stateWith c hs) (fields .0, (fields .1 .0, (fields .1 .1 .0, (fields .1 .1 .1 .0, (fields .1 .1 .1 .1 .0, (fields .1 .1 .1 .1 .1 .0, (subst IsHistory (sym (held-same hs)) q, tt)))))))
 
 -- ---- what stands before the first step: its answer is never read
 abbrev unread : Answer
@@ -470,7 +470,7 @@ module _ {M : Type 1} (𝓤 : URA M) (H : Heap 𝓤) (A : Atoms 𝓤) (W : Given
     in-answers : x .i < length (x .ys)
     in-answers = omega (arith, in-steps, room-for, x .len)
 
-    off-step : x .i * 48 < 2 ^ 64
+    off-step : x .i * 56 < 2 ^ 64
     off-step = omega (arith, in-steps, gn .1)
 
     off-answer : x .i * 8 < 2 ^ 64
@@ -548,9 +548,9 @@ module _ {M : Type 1} (𝓤 : URA M) (H : Heap 𝓤) (A : Atoms 𝓤) (W : Given
       abbrev En : Env 𝓤 H
       En = (RanL.mir, l₀) ∷ (ListL.mir, l₁) ∷ (StateL.mir, l₂) ∷ (stepsTy, l₃) ∷ (answersTy, l₄) ∷ (AdmissionL.mir, l₅) ∷ (word, l₆) ∷ (historyTy, l₇) ∷ (NextL.mir, l₈) ∷ (word, l₉) ∷ (word, l₁₀) ∷ (word, l₁₁) ∷ (ConfigurationL.mir, l₁₂) ∷ (AnswerL.mir, l₁₃) ∷ (tyBool, l₁₄) ∷ (word, l₁₅) ∷ (tyPtr, l₁₆) ∷ (StepL.mir, l₁₇) ∷ (tyRef erased mut historyTy, l₁₈) ∷ (word, l₁₉) ∷ (tyPtr, l₂₀) ∷ (StateL.mir, l₂₁) ∷ (historyTy, l₂₂) ∷ []
 
-      -- the locals at the loop's head, local k at 2 · (22 − k), and what stands after them
-      abbrev Locals : ℕ → NextConfiguration → List ℕ → List (Item 𝓤) → List (Item 𝓤)
-      Locals i last hs Γ = ‵ (froom historyTy l₂₂ 0) ∷ ‵ (fdies historyTy l₂₂)
+      -- the locals, local k at 2 · (22 − k), with what stands in those that are made of the state and in i, and what stands after them
+      abbrev Locals-with : (answer configuration i last history : Item 𝓤) → List (Item 𝓤) → List (Item 𝓤)
+      Locals-with answer configuration i last history Γ = ‵ (froom historyTy l₂₂ 0) ∷ ‵ (fdies historyTy l₂₂)
           ∷ ‵ (froom StateL.mir l₂₁ 0) ∷ ‵ (fdies StateL.mir l₂₁)
           ∷ ‵ (froom tyPtr l₂₀ 0) ∷ ‵ (fdies tyPtr l₂₀)
           ∷ ‵ (froom word l₁₉ 0) ∷ ‵ (fdies word l₁₉)
@@ -559,13 +559,13 @@ module _ {M : Type 1} (𝓤 : URA M) (H : Heap 𝓤) (A : Atoms 𝓤) (W : Given
           ∷ ‵ (froom tyPtr l₁₆ 0) ∷ ‵ (fdies tyPtr l₁₆)
           ∷ ‵ (froom word l₁₅ 0) ∷ ‵ (fdies word l₁₅)
           ∷ ‵ (froom tyBool l₁₄ 0) ∷ ‵ (fdies tyBool l₁₄)
-          ∷ ‵ (fat fullShare AnswerL.mir l₁₃ 0 (answer-val unread)) ∷ ‵ (fdies AnswerL.mir l₁₃)
-          ∷ ‵ (fat fullShare ConfigurationL.mir l₁₂ 0 (configuration-val (configurationOf st₀))) ∷ ‵ (fdies ConfigurationL.mir l₁₂)
+          ∷ answer ∷ ‵ (fdies AnswerL.mir l₁₃)
+          ∷ configuration ∷ ‵ (fdies ConfigurationL.mir l₁₂)
           ∷ ‵ (fat fullShare word l₁₁ 0 (vint w64 m)) ∷ ‵ (fdies word l₁₁)
           ∷ ‵ (fat fullShare word l₁₀ 0 (vint w64 n)) ∷ ‵ (fdies word l₁₀)
-          ∷ ‵ (fat fullShare word l₉ 0 (vint w64 i)) ∷ ‵ (fdies word l₉)
-          ∷ ‵ (fat fullShare NextL.mir l₈ 0 (next-val last)) ∷ ‵ (fdies NextL.mir l₈)
-          ∷ ‵ (fat fullShare historyTy l₇ 0 (history-val hs)) ∷ ‵ (fdies historyTy l₇)
+          ∷ i ∷ ‵ (fdies word l₉)
+          ∷ last ∷ ‵ (fdies NextL.mir l₈)
+          ∷ history ∷ ‵ (fdies historyTy l₇)
           ∷ ‵ (fat fullShare word l₆ 0 (vint w64 count)) ∷ ‵ (fdies word l₆)
           ∷ ‵ (fat fullShare AdmissionL.mir l₅ 0 (admission-val admitted)) ∷ ‵ (fdies AdmissionL.mir l₅)
           ∷ ‵ (fat fullShare answersTy l₄ 0 (sliceVal (b′, o′) m)) ∷ ‵ (fdies answersTy l₄)
@@ -574,6 +574,16 @@ module _ {M : Type 1} (𝓤 : URA M) (H : Heap 𝓤) (A : Atoms 𝓤) (W : Given
           ∷ ‵ (fat fullShare ListL.mir l₁ 0 (list-val list)) ∷ ‵ (fdies ListL.mir l₁)
           ∷ ‵ (froom RanL.mir l₀ 0) ∷ ‵ (fdies RanL.mir l₀)
           ∷ Γ
+
+      abbrev configured : Item 𝓤
+      configured = ‵ (fat fullShare ConfigurationL.mir l₁₂ 0 (configuration-val (configurationOf st₀)))
+
+      abbrev recorded : List ℕ → Item 𝓤
+      recorded hs = ‵ (fat fullShare historyTy l₇ 0 (history-val hs))
+
+      -- at the loop's head
+      abbrev Locals : ℕ → NextConfiguration → List ℕ → List (Item 𝓤) → List (Item 𝓤)
+      Locals i last hs Γ = Locals-with (‵ (fat fullShare AnswerL.mir l₁₃ 0 (answer-val unread))) configured (‵ (fat fullShare word l₉ 0 (vint w64 i))) (‵ (fat fullShare NextL.mir l₈ 0 (next-val last))) (recorded hs) Γ
 
       -- the loop's invariant: 0 to 4 what is held, local k at 5 + 2 · (22 − k), and the steps' ghost name last
       abbrev At : At-point → List (Item 𝓤)
@@ -592,7 +602,7 @@ module _ {M : Type 1} (𝓤 : URA M) (H : Heap 𝓤) (A : Atoms 𝓤) (W : Given
           -- the place of steps[i]
           assigns ! (bin ! (load ! (from ! (stop !)) (look ! 31 refl)) (lit ! tt) (record { fits = off-step x less })) (from ! (stop !)) (init ! 19 refl (tt, record { fits = off-step x less })) $
           assigns ! (bin ! (load ! (from ! (fld ! refl (stop !))) (look-in ! 43 (sub ! 0 refl (whole !)))) (load ! (from ! (stop !)) (look ! 19 refl)) tt) (from ! (stop !)) (init ! 17 refl (tt, tt)) $
-          rewrite ! 17 (λ (p : ℕ). ‵ (fat fullShare tyPtr l₁₆ 0 (vptr b p))) (sym (place-is 48 o (x .i))) refl $
+          rewrite ! 17 (λ (p : ℕ). ‵ (fat fullShare tyPtr l₁₆ 0 (vptr b p))) (sym (place-is 56 o (x .i))) refl $
           -- the steps are looked into, and step i is taken out, read, and put back
           move ! (4 ∷ 3 ∷ []) $
           looks-slice ! tt StepT.the-row (Is StepT.the-row) (shows 𝓤 H A StepT.the-row) (SL.vals StepT.the-type StepL.the-laws) (SL.tells StepT.the-type StepL.the-laws) (SL.copy StepT.the-type StepL.the-copy 𝓤 H A W) ss b o (λ p.
@@ -669,7 +679,10 @@ module _ {M : Type 1} (𝓤 : URA M) (H : Heap 𝓤) (A : Atoms 𝓤) (W : Given
       abbrev owned-all : Item 𝓤
       owned-all = ‵ (owns (ListT.the-row ∷ StateT.the-row ∷ ShrSlice (named 0) κ StepT.the-row ∷ MutSlice (named 1) κ′ u64 ∷ []) (list, (st₀, (steps, (answers ys₀, tt)))) at)
 
-      loop-runs : Sq W (Locals 0 (before-all st₀) (st₀ .history) ((‵ (flft κ q) ⊛ ‵ (flft κ′ q′) ⊛ ‵ ftrue) ∷ owned-all ∷ [])) (runs C Λ En mir′.t-10 (atRet En Post))
+      abbrev passed : List (Item 𝓤)
+      passed = (‵ (flft κ q) ⊛ ‵ (flft κ′ q′) ⊛ ‵ ftrue) ∷ owned-all ∷ []
+
+      loop-runs : Sq W (Locals 0 (before-all st₀) (st₀ .history) passed) (runs C Λ En mir′.t-10 (atRet En Post))
       loop-runs =
           -- [the locals; the tokens; what the parameters own]
           move ! (47 ∷ []) $ fsplit ! $ drop ! $ fsplit ! $ drop ! $ fsplit ! $ fsplit ! $ drop ! $ fsplit ! $ move ! (2 ∷ []) $ fsplit ! $ fsplit ! $ drop ! $ fsplit ! $
@@ -678,7 +691,29 @@ module _ {M : Type 1} (𝓤 : URA M) (H : Heap 𝓤) (A : Atoms 𝓤) (W : Given
           keep ! (3 ∷ 4 ∷ 0 ∷ 2 ∷ 7 ∷ 8 ∷ 9 ∷ 10 ∷ 11 ∷ 12 ∷ 13 ∷ 14 ∷ 15 ∷ 16 ∷ 17 ∷ 18 ∷ 19 ∷ 20 ∷ 21 ∷ 22 ∷ 23 ∷ 24 ∷ 25 ∷ 26 ∷ 27 ∷ 28 ∷ 29 ∷ 30 ∷ 31 ∷ 32 ∷ 33 ∷ 34 ∷ 35 ∷ 36 ∷ 37 ∷ 38 ∷ 39 ∷ 40 ∷ 41 ∷ 42 ∷ 43 ∷ 44 ∷ 45 ∷ 46 ∷ 47 ∷ 48 ∷ 49 ∷ 50 ∷ 51 ∷ 52 ∷ 53 ∷ 6 ∷ []) $
           first ! $ blocks ! $ loops ! 𝓣 Nearer Nearer-wf At turns start
 
-    -- the MIR up to the loop
+      -- what stands before the first step is put together
+      before-loop : Sq W (Locals-with (‵ (froom AnswerL.mir l₁₃ 0)) configured (‵ (froom word l₉ 0)) (‵ (froom NextL.mir l₈ 0)) (recorded (st₀ .history)) passed) (runs C Λ En mir′.t-7 (atRet En Post))
+      before-loop =
+          assigns ! (agg ! (and-then ! (lit ! tt) (and-then ! (lit ! tt) (and-then ! (lit ! tt) (no-more !))))) (from ! (stop !)) (init ! 18 refl (answer-typed unread is-unread)) $
+          assigns ! (agg ! (and-then ! (load ! (from ! (stop !)) (look ! 20 refl)) (and-then ! (load ! (from ! (stop !)) (look ! 18 refl)) (no-more !)))) (from ! (stop !)) (init ! 28 refl (next-typed (before-all st₀) (is-before st₀ gs))) $
+          assigns ! (of-opd ! (lit ! tt)) (from ! (stop !)) (init ! 26 refl (tt, record { fits = lit< tt })) $
+          loop-runs
+
+      -- the state is taken apart
+      taken-apart : Sq W (Locals-with (‵ (froom AnswerL.mir l₁₃ 0)) (‵ (froom ConfigurationL.mir l₁₂ 0)) (‵ (froom word l₉ 0)) (‵ (froom NextL.mir l₈ 0)) (‵ (froom historyTy l₇ 0)) passed) (runs C Λ En mir′.t-5 (atRet En Post))
+      taken-apart =
+          assigns ! (of-opd ! (load ! (from ! (fld ! {τ = historyTy} {d = 1424} refl (stop !))) (look-in ! 40 (sub ! 6 {τ = historyTy} {d = 1424} refl (whole !))))) (from ! (stop !)) (init ! 30 refl (history-typed (held (st₀ .history)) (held-history st₀ gs))) $
+          rewrite ! 30 (λ (hs : List ℕ). ‵ (fat fullShare historyTy l₇ 0 (history-val hs))) (held-same (st₀ .history)) refl $
+          use0 W (raw (Apart 𝓤 H A mem run .pre (to-apart 𝓤 H A mem run st₀))) (asks-apart 𝓤 H A mem run W st₀ gs) $
+          calls-at ! fm (Apart 𝓤 H A mem run) known-apart (to-apart 𝓤 H A mem run st₀) (and-then ! (load ! (from ! (stop !)) (look ! 41 refl)) (no-more !)) (λ u′.
+          use1 W (later (some (λ (c : Configuration). (‵ ftrue ⊛ ‵ (ConfigurationT.the-row .own c (u′ ∷ []))) ⊛ raw (ensured 𝓤 H A apart.ended (apart.clauses 𝓤 H A mem run) tt (st₀, tt) tt c)))) (id⊢ 𝓤 _) $ await ! tt $ pick ! (λ c.
+          split ! $ move ! (1 ∷ []) $ use1 W (raw (fact 𝓤 (c ≡ configurationOf st₀))) (apart-said 𝓤 H A mem run st₀ c) $ heard ! (c ≡ configurationOf st₀) (λ e′. split ! $ drop ! $
+          facts ! ConfigurationT.the-row (Is ConfigurationT.the-row) (shows 𝓤 H A ConfigurationT.the-row) c (u′ ∷ []) (λ is′.
+          land ! (from ! (stop !)) (init ! 20 refl (SL.lawful ConfigurationT.the-type ConfigurationL.the-laws 𝓤 H A W .typed c _ is′ .0)) $
+          rewrite ! 20 (λ (v : Val). ‵ (fat fullShare ConfigurationL.mir l₁₂ 0 v)) (ap only (SL.tells ConfigurationT.the-type ConfigurationL.the-laws c (u′ ∷ []) is′) ∙ ap configuration-val e′) refl $
+          before-loop))))
+
+    -- the MIR up to there
     walk : ent 𝓤 (onEntry 𝓤 H A run′.signature (κ, (κ′, tt)) (q, (q′, tt)) (list, (st₀, (steps, (answers ys₀, tt)))) at)
         (WpFn 𝓤 H C Λ code.function (list-val list ∷ state-val st₀ ∷ sliceVal (b, o) n ∷ sliceVal (b′, o′) m ∷ []) Post)
     walk =
@@ -696,20 +731,7 @@ module _ {M : Type 1} (𝓤 : URA M) (H : Heap 𝓤) (A : Atoms 𝓤) (W : Given
         land ! (from ! (stop !)) (init ! 34 refl (SL.lawful AdmissionT.the-type AdmissionL.the-laws 𝓤 H A W .typed r _ is .0)) $
         rewrite ! 34 (λ (v : Val). ‵ (fat fullShare AdmissionL.mir l₅ 0 v)) (ap only (SL.tells AdmissionT.the-type AdmissionL.the-laws r (u ∷ []) is) ∙ ap admission-val e) refl $
         assigns ! (of-opd ! (load ! (from ! (fld ! refl (stop !))) (look-in ! 34 (sub ! 1 refl (whole !))))) (from ! (stop !)) (init ! 32 refl (tt, record { fits = SL.owed AdmissionT.the-type AdmissionL.the-laws admitted _ (is-admission r u e is) .1 .0 .1 })) $
-        -- the state is taken apart
-        assigns ! (of-opd ! (load ! (from ! (fld ! {τ = historyTy} {d = 1160} refl (stop !))) (look-in ! 40 (sub ! 5 {τ = historyTy} {d = 1160} refl (whole !))))) (from ! (stop !)) (init ! 30 refl (history-typed (held (st₀ .history)) (held-history st₀ gs))) $
-        rewrite ! 30 (λ (hs : List ℕ). ‵ (fat fullShare historyTy l₇ 0 (history-val hs))) (held-same (st₀ .history)) refl $
-        use0 W (raw (Apart 𝓤 H A mem run .pre (to-apart 𝓤 H A mem run st₀))) (asks-apart 𝓤 H A mem run W st₀ gs) $
-        calls-at ! fm (Apart 𝓤 H A mem run) known-apart (to-apart 𝓤 H A mem run st₀) (and-then ! (load ! (from ! (stop !)) (look ! 41 refl)) (no-more !)) (λ u′.
-        use1 W (later (some (λ (c : Configuration). (‵ ftrue ⊛ ‵ (ConfigurationT.the-row .own c (u′ ∷ []))) ⊛ raw (ensured 𝓤 H A apart.ended (apart.clauses 𝓤 H A mem run) tt (st₀, tt) tt c)))) (id⊢ 𝓤 _) $ await ! tt $ pick ! (λ c.
-        split ! $ move ! (1 ∷ []) $ use1 W (raw (fact 𝓤 (c ≡ configurationOf st₀))) (apart-said 𝓤 H A mem run st₀ c) $ heard ! (c ≡ configurationOf st₀) (λ e′. split ! $ drop ! $
-        facts ! ConfigurationT.the-row (Is ConfigurationT.the-row) (shows 𝓤 H A ConfigurationT.the-row) c (u′ ∷ []) (λ is′.
-        land ! (from ! (stop !)) (init ! 20 refl (SL.lawful ConfigurationT.the-type ConfigurationL.the-laws 𝓤 H A W .typed c _ is′ .0)) $
-        rewrite ! 20 (λ (v : Val). ‵ (fat fullShare ConfigurationL.mir l₁₂ 0 v)) (ap only (SL.tells ConfigurationT.the-type ConfigurationL.the-laws c (u′ ∷ []) is′) ∙ ap configuration-val e′) refl $
-        assigns ! (agg ! (and-then ! (lit ! tt) (and-then ! (lit ! tt) (and-then ! (lit ! tt) (no-more !))))) (from ! (stop !)) (init ! 18 refl (answer-typed unread is-unread)) $
-        assigns ! (agg ! (and-then ! (load ! (from ! (stop !)) (look ! 20 refl)) (and-then ! (load ! (from ! (stop !)) (look ! 18 refl)) (no-more !)))) (from ! (stop !)) (init ! 28 refl (next-typed (before-all st₀) (is-before st₀ gs))) $
-        assigns ! (of-opd ! (lit ! tt)) (from ! (stop !)) (init ! 26 refl (tt, record { fits = lit< tt })) $
-        loop-runs (is-admission r u e is) l₀ l₁ l₂ l₃ l₄ l₅ l₆ l₇ l₈ l₉ l₁₀ l₁₁ l₁₂ l₁₃ l₁₄ l₁₅ l₁₆ l₁₇ l₁₈ l₁₉ l₂₀ l₂₁ l₂₂)))))))))))))))))))))))))))))))
+        taken-apart (is-admission r u e is) l₀ l₁ l₂ l₃ l₄ l₅ l₆ l₇ l₈ l₉ l₁₀ l₁₁ l₁₂ l₁₃ l₁₄ l₁₅ l₁₆ l₁₇ l₁₈ l₁₉ l₂₀ l₂₁ l₂₂)))))))))))))))))))))))))))
       where
         is-admission : (r : Admission) (u : Val) → r ≡ admitted → Is AdmissionT.the-row r (u ∷ []) → IsAdmission admitted
         is-admission r u e is = subst IsAdmission e (subst (Is AdmissionT.the-row r) (SL.tells AdmissionT.the-type AdmissionL.the-laws r (u ∷ []) is) is)

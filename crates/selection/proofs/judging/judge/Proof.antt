@@ -17,10 +17,10 @@ use Rattle.selection.proofs.judging.judge.Statement.{statement}
 use Rattle.selection.proofs.judging.judge.Tie as tie
 
 abbrev Inv-loop : tie.InvT-loop
-Inv-loop assigned granted sessions active history time list length choice judged₀ i₀ judged i = (i ≤ length) × (judged ≡ judgedOf (chosen choice) (view assigned assigned granted sessions active history time) (firstRules i (list .slots)))
+Inv-loop assigned held granted sessions active history time list length choice judged₀ i₀ judged i = (i ≤ length) × (judged ≡ judgedOf (chosen choice) (view assigned held granted sessions active history time) (firstRules i (list .slots)))
 
 abbrev μ-loop : tie.MeasureT-loop
-μ-loop assigned granted sessions active history time list length choice judged₀ i₀ judged i = length - i
+μ-loop assigned held granted sessions active history time list length choice judged₀ i₀ judged i = length - i
 
 -- The type fixes the number of slots, so each index below the length is one of a slot.
 slots-length : (c : tie.Start Inv-loop μ-loop) → lib.ListN.length (c .args .t1 .slots) ≡ 128

@@ -1,7 +1,7 @@
 -- `selection::selection::choice_of` meets its contract.
 -- Assumes nothing.
 use Rattle.selection.specs.Selection.{selects}
-use Rattle.selection.proofs.Choosing.{none-chosen, assign-chosen, withdraw-chosen, grant-chosen, activate-chosen, deactivate-chosen, access-chosen, close-chosen, move-chosen, lost-chosen, clock-chosen, chosen-told}
+use Rattle.selection.proofs.Choosing.{none-chosen, assign-chosen, withdraw-chosen, grant-chosen, activate-chosen, deactivate-chosen, access-chosen, close-chosen, move-chosen, lost-chosen, clock-chosen, lend-chosen, recall-chosen, chosen-told}
 use borrow.Author.Needs.{needs}
 use Rattle.selection.proofs.selection.choice_of.Statement.{statement}
 use Rattle.selection.proofs.selection.choice_of.Tie as tie
@@ -90,6 +90,18 @@ enum-told-8 c = search needs
 by-families-requires-14 : tie.Need-by-families-requires-14
 by-families-requires-14 c κs = search needs
 
+enum-known-action-7 : tie.Need-enum-known-action-7
+enum-known-action-7 c = search needs
+
+by-families-requires-15 : tie.Need-by-families-requires-15
+by-families-requires-15 c κs = search needs
+
+enum-told-9 : tie.Need-enum-told-9
+enum-told-9 c = search needs
+
+by-families-requires-16 : tie.Need-by-families-requires-16
+by-families-requires-16 c κs = search needs
+
 returns : tie.Need-returns
 unfolding selects
 returns c = chosen-told _ _ (c .before .enum-told .given .1) _ _ (c .by-families .ensures) (λ k. none-chosen k)
@@ -136,6 +148,12 @@ returns-13 c = chosen-told _ _ (c .before .enum-told7 .given .1) _ _ (c .by-fami
 returns-14 : tie.Need-returns-14
 returns-14 c = chosen-told _ _ (c .before .enum-told8 .given .1) _ _ (c .by-families14 .ensures) (λ k. clock-chosen k _)
 
+returns-15 : tie.Need-returns-15
+returns-15 c = chosen-told _ _ (c .before .before .action7 .given .1) _ _ (c .by-families15 .ensures) (λ k. lend-chosen k _ _ _ _)
+
+returns-16 : tie.Need-returns-16
+returns-16 c = chosen-told _ _ (c .before .enum-told9 .given .1) _ _ (c .by-families16 .ensures) (λ k. recall-chosen k _ _ _)
+
 pub choice-of-spec : {M : Type 1} → statement M
 choice-of-spec =
     tie.close
@@ -168,6 +186,10 @@ choice-of-spec =
     by-families-requires-13
     enum-told-8
     by-families-requires-14
+    enum-known-action-7
+    by-families-requires-15
+    enum-told-9
+    by-families-requires-16
     returns
     returns-2
     returns-3
@@ -181,4 +203,6 @@ choice-of-spec =
     returns-11
     returns-12
     returns-13
-    returns-14)
+    returns-14
+    returns-15
+    returns-16)

@@ -7,8 +7,8 @@ use borrow.Author.Needs.{needs}
 use Rattle.state_text.proofs.entries.column_rank.Statement.{statement}
 use Rattle.state_text.proofs.entries.column_rank.Tie as tie
 
-product : (c : tie.Start) → c .args .row * c .args .width ≤ 1023 * 64
-product c = let r : c .args .row ≤ 1023 = omega arith in let w : c .args .width ≤ 64 = omega arith in mul-le-mul r w
+product : (c : tie.Start) → c .args .row * c .args .width ≤ 4095 * 64
+product c = let r : c .args .row ≤ 4095 = omega arith in let w : c .args .width ≤ 64 = omega arith in mul-le-mul r w
 
 mul-result : tie.Need-mul-result
 mul-result c = omega (arith, product c)

@@ -7,24 +7,26 @@ use mathlib.Core.Bool.{true}
 use Prim.Native.Nat.{_+_, _≤_, _-_}
 use lib.ListN.{length, length-map}
 use Rattle.rules.specs.Acceptance.{every}
-use Rattle.rules.specs.Breach.{isKept}
 use Rattle.rules.proofs.Every.{everyFirst, every-next}
 use Rattle.enforcement.specs.States.{ruleHolds}
 use Rattle.steps.specs.declared.lowest.Lowest.the-variants.{BrokenAt}
-use Rattle.state_text.proofs.LowestRule.{every-unbroken, lowest-stop}
+use Rattle.state_text.proofs.LowestRule.{every-unbroken, lowest-stop, rule-tested}
 use borrow.Author.Needs.{needs}
 use Rattle.state_text.proofs.judging.lowest_broken.Statement.{statement}
 use Rattle.state_text.proofs.judging.lowest_broken.Tie as tie
 
 abbrev Inv-rules : tie.InvT-rules
-Inv-rules list state length sessions time i₀ i = (i ≤ length) × (everyFirst (λ rule. ruleHolds rule state) i (list .slots) ≡ true)
+Inv-rules list state length held sessions time i₀ i = (i ≤ length) × (everyFirst (λ rule. ruleHolds rule state) i (list .slots) ≡ true)
 
 abbrev μ-rules : tie.MeasureT-rules
-μ-rules list state length sessions time i₀ i = length - i
+μ-rules list state length held sessions time i₀ i = length - i
 
 -- The type fixes the number of slots, so each index below the length is one of a slot.
 slots-length : (c : tie.Start Inv-rules μ-rules) → length (c .args .t1 .slots) ≡ 128
 slots-length c = sym (length-map (c .args .t1 .slots) _) ∙ c .good .0 .1 .1 .0 .1 .0 .1
+
+held-requires : tie.Need-held-requires Inv-rules μ-rules
+held-requires c κs = search needs
 
 rules-holds : tie.Need-rules-holds Inv-rules μ-rules
 unfolding every
@@ -42,8 +44,8 @@ test-requires c κs = search needs
 is-kept-requires : tie.Need-is-kept-requires Inv-rules μ-rules
 is-kept-requires c κs = search needs
 
-add-t24 : tie.Need-add-t24 Inv-rules μ-rules
-add-t24 c = search needs
+add-t28 : tie.Need-add-t28 Inv-rules μ-rules
+add-t28 c = search needs
 
 add-i : tie.Need-add-i Inv-rules μ-rules
 add-i c = search needs
@@ -53,23 +55,23 @@ rules-less c = search needs
 
 rules-again : tie.Need-rules-again Inv-rules μ-rules
 rules-again c =
-    let start = c .before .before .before .before .before .before .before .before .before .before .before .before .before in
+    let start = c .before .before .before .before .before .before .before .before .before .before .before .before .before .before .before .before in
     let at = c .before .before .before .before .before .before .before .before .before .before .before .rules in
-    let kept = sym (c .before .is-kept .ensures ∙ ap isKept (c .before .before .test .ensures)) ∙ not-false _ (c .if2 .left) in
+    let kept = rule-tested _ (start .args .t2) (c .before .before .before .before .before .before .before .before .before .before .before .before .before .held .ensures) (c .before .before .test .ensures) (c .before .is-kept .ensures) ∙ not-false _ (c .if2 .left) in
     (search needs, every-next (λ rule. ruleHolds rule (start .args .t2)) _ (at .i) _ (omega (arith, slots-length start)) (at .inv .1) kept)
 
 returns : tie.Need-returns Inv-rules μ-rules
 returns c =
-    let start = c .before .before .before in
+    let start = c .before .before .before .before .before .before in
     let done : c .before .rules .i ≡ start .args .t1 .length = c .if1 .taken in
     sym (every-unbroken (λ rule. ruleHolds rule (start .args .t2)) 1 _ (rw done at (c .before .rules .inv .1)))
 
 returns-2 : tie.Need-returns-2 Inv-rules μ-rules
 returns-2 c =
-    let start = c .before .before .before .before .before .before .before .before .before .before .before .before .before in
+    let start = c .before .before .before .before .before .before .before .before .before .before .before .before .before .before .before .before in
     let at = c .before .before .before .before .before .before .before .before .before .before .before .rules in
     let e : 1 + at .i ≡ at .i + 1 = omega arith in
-    let broken = sym (c .before .is-kept .ensures ∙ ap isKept (c .before .before .test .ensures)) ∙ not-true _ (c .if2 .taken) in
+    let broken = rule-tested _ (start .args .t2) (c .before .before .before .before .before .before .before .before .before .before .before .before .before .held .ensures) (c .before .before .test .ensures) (c .before .is-kept .ensures) ∙ not-true _ (c .if2 .taken) in
     sym (lowest-stop (λ rule. ruleHolds rule (start .args .t2)) (start .args .t1 .slots) 1 (start .args .t1 .length) (at .i) _ (search needs) (omega (arith, slots-length start)) (at .inv .1) broken ∙ ap BrokenAt e)
 
 pub lowest-broken-spec : {M : Type 1} → statement M
@@ -78,12 +80,13 @@ lowest-broken-spec =
     (tie.spec
     Inv-rules
     μ-rules
+    held-requires
     rules-holds
     mul-slot
     element-copy-out-slot
     test-requires
     is-kept-requires
-    add-t24
+    add-t28
     add-i
     rules-less
     rules-again

@@ -1,14 +1,14 @@
 -- `state_text::lines::has_role` meets its contract.
 -- Assumes nothing.
 use mathlib.Core.Path.{sym}
-use Rattle.enforcement.proofs.RequestLaws.{outside-none}
+use Rattle.loans.proofs.Holding.{outside-none}
 use denote.Ref.{now}
 use borrow.Author.Needs.{needs}
 use Rattle.state_text.proofs.lines.has_role.Statement.{statement}
 use Rattle.state_text.proofs.lines.has_role.Tie as tie
 
 returns : tie.Need-returns
-returns c = sym (outside-none (now (c .before .args .assigned)) (c .before .args .user) (c .before .args .role) (search needs))
+returns c = sym (outside-none (now (c .before .args .roles)) (c .before .args .user) (c .before .args .role) (search needs))
 
 mul-member : tie.Need-mul-member
 mul-member c = search needs

@@ -13,7 +13,7 @@ enum-known-entry : tie.Need-enum-known-entry
 enum-known-entry c = search needs
 
 returns : tie.Need-returns
-returns c = λ s h. fields s _ .active ∙ other _ 5 tt (c .match .keys2) _ _ ∙ h
+returns c = λ s h. fields s _ .active ∙ other _ 6 tt (c .match .keys2) _ _ ∙ h
 
 mul-with : tie.Need-mul-with
 mul-with c = let h = subst Ranged (c .before .entry .given .1) (c .before .before .before .pre) in omega arith

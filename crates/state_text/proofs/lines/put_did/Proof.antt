@@ -13,7 +13,7 @@ enum-known-entry : tie.Need-enum-known-entry
 enum-known-entry c = search needs
 
 returns : tie.Need-returns
-returns c = λ s h. fields s _ .history ∙ other _ 6 tt (c .match .keys2) _ _ ∙ h
+returns c = λ s h. fields s _ .history ∙ other _ 7 tt (c .match .keys2) _ _ ∙ h
 
 mul-i : tie.Need-mul-i
 mul-i c = let h = subst Ranged (c .before .entry .given .1) (c .before .before .before .pre) in omega arith

@@ -29,28 +29,34 @@ rows-length-requires c κs = search needs
 rows-length-requires-2 : tie.Need-rows-length-requires-2
 rows-length-requires-2 c κs = search needs
 
+loans-length-requires : tie.Need-loans-length-requires
+loans-length-requires c κs = search needs
+
 sessions-length-requires : tie.Need-sessions-length-requires
 sessions-length-requires c κs = search needs
 
 add-result : tie.Need-add-result
-add-result c = omega (arith, time-at (c .before .before .before .before .before .before .before .before .before .before .before .before) .1, c .before .before .before .before .before .before .before .before .rows-length .ensures .bounded, c .before .before .before .before .rows-length2 .ensures .bounded, c .sessions-length .ensures .bounded)
+add-result c = omega (arith, time-at (c .before .before .before .before .before .before .before .before .before .before .before .before .before .before) .1, c .before .before .before .before .before .before .before .before .before .before .rows-length .ensures .bounded, c .before .before .before .before .before .before .rows-length2 .ensures .bounded, c .before .before .before .before .loans-length .ensures .bounded, c .sessions-length .ensures .bounded)
 
 add-result-2 : tie.Need-add-result-2
-add-result-2 c = omega (arith, time-at (c .before .before .before .before .before .before .before .before .before .before .before .before) .1, c .before .before .before .before .before .before .before .before .rows-length .ensures .bounded, c .before .before .before .before .rows-length2 .ensures .bounded, c .sessions-length .ensures .bounded)
+add-result-2 c = omega (arith, time-at (c .before .before .before .before .before .before .before .before .before .before .before .before .before .before) .1, c .before .before .before .before .before .before .before .before .before .before .rows-length .ensures .bounded, c .before .before .before .before .before .before .rows-length2 .ensures .bounded, c .before .before .before .before .loans-length .ensures .bounded, c .sessions-length .ensures .bounded)
 
 add-result-3 : tie.Need-add-result-3
-add-result-3 c = omega (arith, time-at (c .before .before .before .before .before .before .before .before .before .before .before .before) .1, c .before .before .before .before .before .before .before .before .rows-length .ensures .bounded, c .before .before .before .before .rows-length2 .ensures .bounded, c .sessions-length .ensures .bounded)
+add-result-3 c = omega (arith, time-at (c .before .before .before .before .before .before .before .before .before .before .before .before .before .before) .1, c .before .before .before .before .before .before .before .before .before .before .rows-length .ensures .bounded, c .before .before .before .before .before .before .rows-length2 .ensures .bounded, c .before .before .before .before .loans-length .ensures .bounded, c .sessions-length .ensures .bounded)
+
+add-result-4 : tie.Need-add-result-4
+add-result-4 c = omega (arith, time-at (c .before .before .before .before .before .before .before .before .before .before .before .before .before .before) .1, c .before .before .before .before .before .before .before .before .before .before .rows-length .ensures .bounded, c .before .before .before .before .before .before .rows-length2 .ensures .bounded, c .before .before .before .before .loans-length .ensures .bounded, c .sessions-length .ensures .bounded)
 
 history-length-requires : tie.Need-history-length-requires
 history-length-requires c κs = search needs
 
-add-result-4 : tie.Need-add-result-4
-add-result-4 c = omega (arith, time-at (c .before .before .before .before .before .before .before .before .before .before .before .before .before .before .before) .1, c .before .before .before .before .before .before .before .before .before .before .before .rows-length .ensures .bounded, c .before .before .before .before .before .before .before .rows-length2 .ensures .bounded, c .before .before .before .sessions-length .ensures .bounded, c .history-length .ensures .bounded)
+add-result-5 : tie.Need-add-result-5
+add-result-5 c = omega (arith, time-at (c .before .before .before .before .before .before .before .before .before .before .before .before .before .before .before .before .before) .1, c .before .before .before .before .before .before .before .before .before .before .before .before .before .rows-length .ensures .bounded, c .before .before .before .before .before .before .before .before .before .rows-length2 .ensures .bounded, c .before .before .before .before .before .before .before .loans-length .ensures .bounded, c .before .before .before .sessions-length .ensures .bounded, c .history-length .ensures .bounded)
 
 returns : tie.Need-returns
 returns c =
-    let begin = c .before .before .before .before .before .before .before .before .before .before .before .before .before .before .before .before in
-    saved-measured (begin .args .t1) (assigned-length begin) (granted-length begin) (time-at (c .before .before .before .before .before .before .before .before .before .before .before .before .before .before .before) .0) (c .before .before .before .before .before .before .before .before .before .before .before .rows-length .ensures) (c .before .before .before .before .before .before .before .rows-length2 .ensures) (c .before .before .before .sessions-length .ensures) (c .history-length .ensures)
+    let begin = c .before .before .before .before .before .before .before .before .before .before .before .before .before .before .before .before .before .before in
+    saved-measured (begin .args .t1) (assigned-length begin) (granted-length begin) (time-at (c .before .before .before .before .before .before .before .before .before .before .before .before .before .before .before .before .before) .0) (c .before .before .before .before .before .before .before .before .before .before .before .before .before .rows-length .ensures) (c .before .before .before .before .before .before .before .before .before .rows-length2 .ensures) (c .before .before .before .before .before .before .before .loans-length .ensures) (c .before .before .before .sessions-length .ensures) (c .history-length .ensures)
 
 pub saved-length-spec : {M : Type 1} → statement M
 saved-length-spec =
@@ -59,10 +65,12 @@ saved-length-spec =
     line-length-requires
     rows-length-requires
     rows-length-requires-2
+    loans-length-requires
     sessions-length-requires
     add-result
     add-result-2
     add-result-3
-    history-length-requires
     add-result-4
+    history-length-requires
+    add-result-5
     returns)

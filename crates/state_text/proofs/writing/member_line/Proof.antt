@@ -22,7 +22,7 @@ returns-4 : tie.Need-returns-4
 unfolding memberLine
 returns-4 c =
     let form = c .before .args .form in
-    rw (ne-eqb form 1 (λ e. omega arith), ne-eqb form 2 (λ e. omega arith), ne-eqb form 5 (λ e. omega arith))
+    rw (ne-eqb form 1 (λ e. omega arith), ne-eqb form 2 (λ e. omega arith), ne-eqb form 6 (λ e. omega arith))
 
 pub member-line-spec : {M : Type 1} → statement M
 member-line-spec = tie.close (tie.spec returns returns-2 returns-3 returns-4)

@@ -23,6 +23,9 @@ write-rows-requires c κs = search needs
 write-rows-requires-2 : tie.Need-write-rows-requires-2
 write-rows-requires-2 c κs = search needs
 
+write-loans-requires : tie.Need-write-loans-requires
+write-loans-requires c κs = search needs
+
 write-sessions-requires : tie.Need-write-sessions-requires
 write-sessions-requires c κs = search needs
 
@@ -34,8 +37,8 @@ same-length c = search needs
 
 returns : tie.Need-returns
 returns c =
-    let begin = c .before .before .before .before .before .before .before .before .before .before .before .before .before .before .before .before .before .before .before .before .before .before .before .before .before .before .before .before .before .before .before .before in
-    state-parts (begin .args .t1) (assigned-length begin) (granted-length begin) (omega arith) (c .before .before .before .before .before .before .before .before .before .before .before .before .before .before .before .before .before .before .before .before .before .before .before .before .before .before .before .before .before .write-line .ensures) (c .before .before .before .before .before .before .before .before .before .before .before .before .before .before .before .before .before .before .before .before .before .before .write-rows .ensures) (c .before .before .before .before .before .before .before .before .before .before .before .before .before .before .before .write-rows2 .ensures) (c .before .before .before .before .before .before .before .before .write-sessions .ensures) (c .before .before .write-history .ensures)
+    let begin = c .before .before .before .before .before .before .before .before .before .before .before .before .before .before .before .before .before .before .before .before .before .before .before .before .before .before .before .before .before .before .before .before .before .before .before .before .before in
+    state-parts (begin .args .t1) (assigned-length begin) (granted-length begin) (omega arith) (c .before .before .before .before .before .before .before .before .before .before .before .before .before .before .before .before .before .before .before .before .before .before .before .before .before .before .before .before .before .before .before .before .before .before .write-line .ensures) (c .before .before .before .before .before .before .before .before .before .before .before .before .before .before .before .before .before .before .before .before .before .before .before .before .before .before .before .write-rows .ensures) (c .before .before .before .before .before .before .before .before .before .before .before .before .before .before .before .before .before .before .before .before .write-rows2 .ensures) (c .before .before .before .before .before .before .before .before .before .before .before .before .before .before .before .write-loans .ensures) (c .before .before .before .before .before .before .before .before .write-sessions .ensures) (c .before .before .write-history .ensures)
 
 pub write-lines-spec : {M : Type 1} → statement M
 write-lines-spec =
@@ -44,6 +47,7 @@ write-lines-spec =
     write-line-requires
     write-rows-requires
     write-rows-requires-2
+    write-loans-requires
     write-sessions-requires
     write-history-requires
     same-length

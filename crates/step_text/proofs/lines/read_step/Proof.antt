@@ -22,7 +22,7 @@ unfolding lineAfter
 none f e = rw (eq-eqb (f .form) formCount e)
 
 some : (f : Found) → (f .form ≡ formCount → ⊥) → (x y : ℤ) → x ≡ stepFrom (f .form) (f .values) .x → y ≡ stepFrom (f .form) (f .values) .y
-    → Good (record { step = record { kind = f .form; first = getD (f .values) 0 0; second = getD (f .values) 1 0; third = getD (f .values) 2 0; x = x; y = y }; length = f .length })
+    → Good (record { step = record { kind = f .form; first = getD (f .values) 0 0; second = getD (f .values) 1 0; third = getD (f .values) 2 0; fourth = getD (f .values) 3 0; x = x; y = y }; length = f .length })
     ≡ lineAfter f
 unfolding lineAfter
 some f n x y p q = rw (ne-eqb (f .form) formCount n, p, q)
@@ -57,6 +57,9 @@ array-read-t20 c = search needs
 array-read-t23 : tie.Need-array-read-t23
 array-read-t23 c = search needs
 
+array-read-t26 : tie.Need-array-read-t26
+array-read-t26 c = search needs
+
 array-read-signed-value : tie.Need-array-read-signed-value
 array-read-signed-value c = search needs
 
@@ -88,6 +91,7 @@ read-step-spec =
     array-read-t17
     array-read-t20
     array-read-t23
+    array-read-t26
     array-read-signed-value
     signed-value-requires
     array-read-signed-value-2

@@ -2,11 +2,15 @@
 -- Assumes nothing.
 use mathlib.Core.Path.{_≡_, refl, sym, _∙_}
 use mathlib.Core.Bool.{Bool, _&&_}
+use mathlib.Core.Logic.{inr}
+use Prim.Native.Nat.{_+_, _*_}
+use lib.ListN.{set}
 use lib.Seq.{set-set, set-getD}
 use Rattle.sets.specs.Sets.{member, any}
 use Rattle.rules.specs.Families.{wordAt, permissionsOf}
-use Rattle.enforcement.specs.Steps.{check, target}
-use Rattle.enforcement.proofs.Agreement.{none-ended}
+use Rattle.enforcement.specs.Steps.{check, target, withHistory}
+use Rattle.enforcement.specs.Deciding.{stateWith}
+use Rattle.enforcement.proofs.EndedPairs.{none-ended}
 use Rattle.enforcement.proofs.RequestLaws.{carried-same, decide-refused, granted-decided, broken-decided, not-told}
 use borrow.Author.Needs.{needs}
 use Rattle.enforcement.proofs.configurations.Configuration.access.Statement.{statement}
@@ -87,9 +91,8 @@ granted-requires c κs = search needs
 
 returns-3 : tie.Need-returns-3
 unfolding check target
-returns-3 c =
-    rw (c .granted .ensures)
-    (granted-decided _ _ _ _ _ (c .before .before .before .judge .ensures) (rw (c .before .before .before .before .before .before .before .before .before .before .before .before .before .before .before .before .before .before .if1 .left, not-told (asked (c .before .before .before .before .before .before .before .before .before .before .before .before .before .before)) (c .before .before .before .before .before .before .before .before .before .before .before .before .before .if2 .left))) refl (rw (c .before .before .before .before .before .before .before .before .before .before .with .ensures)) _ (c .before .enum-told .given .1) (sym (none-ended _)))
+returns-3 c = rw (c .granted .ensures)
+    (granted-decided _ _ _ _ _ _ (c .before .before .before .judge .ensures) (inr refl) (rw (c .before .before .before .before .before .before .before .before .before .before .before .before .before .before .before .before .before .before .before .if1 .left, not-told (asked (c .before .before .before .before .before .before .before .before .before .before .before .before .before .before .before)) (c .before .before .before .before .before .before .before .before .before .before .before .before .before .before .if2 .left))) refl (rw (c .before .before .before .before .before .before .before .before .before .before .before .with .ensures)) _ (c .before .enum-told .given .1) (sym (none-ended _)))
 
 mul-history-2 : tie.Need-mul-history-2
 mul-history-2 c = search needs
@@ -103,8 +106,10 @@ refused-by-rule-requires c κs = search needs
 returns-4 : tie.Need-returns-4
 unfolding check target
 returns-4 c =
+    let start = c .before .before .before .before .before .before .before .before .before .before .before .before .before .before .before .before .before .before .before .before .before .before .before in
+    let s = stateWith (start .args .t1) (start .args .history .now) in
     rw (c .refused-by-rule .ensures, set-set, set-getD)
-    (broken-decided _ _ _ _ _ (c .before .before .before .before .judge .ensures) (rw (c .before .before .before .before .before .before .before .before .before .before .before .before .before .before .before .before .before .before .before .if1 .left, not-told (asked (c .before .before .before .before .before .before .before .before .before .before .before .before .before .before .before)) (c .before .before .before .before .before .before .before .before .before .before .before .before .before .before .if2 .left))) refl (rw (c .before .before .before .before .before .before .before .before .before .before .before .with .ensures)) _ (c .before .before .broken .given .1))
+    (broken-decided _ s (withHistory s (set (s .history) (start .args .object * 32 + start .args .permission) (c .before .before .before .before .before .before .before .before .before .before .before .before .with .result))) _ _ _ (c .before .before .before .before .judge .ensures) (inr refl) (rw (c .before .before .before .before .before .before .before .before .before .before .before .before .before .before .before .before .before .before .before .before .if1 .left, not-told (asked (c .before .before .before .before .before .before .before .before .before .before .before .before .before .before .before .before)) (c .before .before .before .before .before .before .before .before .before .before .before .before .before .before .before .if2 .left))) refl (rw (c .before .before .before .before .before .before .before .before .before .before .before .before .with .ensures)) _ (c .before .before .broken .given .1))
 
 pub access-spec : {M : Type 1} → statement M
 access-spec =

@@ -36,15 +36,18 @@ returns-2 : tie.Need-returns-2
 unfolding check
 returns-2 c = rw (c .refused2 .ensures) (decide-refused _ _ _ 24 (rw (c .before .before .before .before .if1 .left, sym (c .before .before .member .ensures) ∙ c .before .if2 .taken)))
 
-has-role-requires : tie.Need-has-role-requires
-has-role-requires c κs = search needs
+cast-is-held : tie.Need-cast-is-held
+cast-is-held c = search needs
+
+is-held-requires : tie.Need-is-held-requires
+is-held-requires c κs = search needs
 
 refused-requires-3 : tie.Need-refused-requires-3
 refused-requires-3 c κs = search needs
 
 returns-3 : tie.Need-returns-3
 unfolding check
-returns-3 c = rw (c .refused3 .ensures) (decide-refused _ _ _ 26 (rw (c .before .before .before .before .before .before .before .before .if1 .left, sym (c .before .before .before .before .before .before .member .ensures) ∙ c .before .before .before .before .before .if2 .left, not-told (c .before .before .has-role .ensures) (c .before .if3 .taken))))
+returns-3 c = rw (c .refused3 .ensures) (decide-refused _ _ _ 26 (rw (c .before .before .before .before .before .before .before .before .before .if1 .left, sym (c .before .before .before .before .before .before .before .member .ensures) ∙ c .before .before .before .before .before .before .if2 .left, not-told (c .before .before .is-held .ensures) (c .before .if3 .taken))))
 
 with-requires : tie.Need-with-requires
 with-requires c κs = search needs
@@ -54,7 +57,7 @@ with-active-requires c κs = search needs
 
 returns-4 : tie.Need-returns-4
 unfolding check target
-returns-4 c = c .with-active .ensures ∙ rw (c .before .with .ensures) (decide-request _ _ _ (rw (c .before .before .before .before .before .before .before .before .before .if1 .left, sym (c .before .before .before .before .before .before .before .member .ensures) ∙ c .before .before .before .before .before .before .if2 .left, not-told (c .before .before .before .has-role .ensures) (c .before .before .if3 .left))) refl)
+returns-4 c = c .with-active .ensures ∙ rw (c .before .with .ensures) (decide-request _ _ _ (rw (c .before .before .before .before .before .before .before .before .before .before .if1 .left, sym (c .before .before .before .before .before .before .before .before .member .ensures) ∙ c .before .before .before .before .before .before .before .if2 .left, not-told (c .before .before .before .is-held .ensures) (c .before .before .if3 .left))) refl)
 
 pub activate-spec : {M : Type 1} → statement M
 activate-spec =
@@ -69,7 +72,8 @@ activate-spec =
     member-requires
     refused-requires-2
     returns-2
-    has-role-requires
+    cast-is-held
+    is-held-requires
     refused-requires-3
     returns-3
     with-requires

@@ -7,21 +7,21 @@ use borrow.Author.Needs.{needs}
 use Rattle.enforcement.proofs.configurations.Configuration.assign.Statement.{statement}
 use Rattle.enforcement.proofs.configurations.Configuration.assign.Tie as tie
 
-mul-roles : tie.Need-mul-roles
-mul-roles c = search needs
-
-element-copy-out-roles : tie.Need-element-copy-out-roles
-element-copy-out-roles c = search needs
-
-member-requires : tie.Need-member-requires
-member-requires c κs = search needs
+is-held-requires : tie.Need-is-held-requires
+is-held-requires c κs = search needs
 
 refused-requires : tie.Need-refused-requires
 refused-requires c κs = search needs
 
 returns : tie.Need-returns
 unfolding check
-returns c = rw (c .refused .ensures) (decide-refused _ _ _ _ (rw (sym (c .before .before .member .ensures) ∙ c .before .if1 .taken)))
+returns c = rw (c .refused .ensures) (decide-refused _ _ _ _ (rw (sym (c .before .before .is-held .ensures) ∙ c .before .if1 .taken)))
+
+mul-roles : tie.Need-mul-roles
+mul-roles c = search needs
+
+element-copy-out-roles : tie.Need-element-copy-out-roles
+element-copy-out-roles c = search needs
 
 with-requires : tie.Need-with-requires
 with-requires c κs = search needs
@@ -31,17 +31,17 @@ with-assigned-requires c κs = search needs
 
 returns-2 : tie.Need-returns-2
 unfolding check target
-returns-2 c = c .with-assigned .ensures ∙ rw (c .before .with .ensures) (decide-request _ _ _ (rw (sym (c .before .before .before .member .ensures) ∙ c .before .before .if1 .left)) refl)
+returns-2 c = c .with-assigned .ensures ∙ rw (c .before .with .ensures) (decide-request _ _ _ (rw (sym (c .before .before .before .before .is-held .ensures) ∙ c .before .before .before .if1 .left)) refl)
 
 pub assign-spec : {M : Type 1} → statement M
 assign-spec =
     tie.close
     (tie.spec
-    mul-roles
-    element-copy-out-roles
-    member-requires
+    is-held-requires
     refused-requires
     returns
+    mul-roles
+    element-copy-out-roles
     with-requires
     with-assigned-requires
     returns-2)

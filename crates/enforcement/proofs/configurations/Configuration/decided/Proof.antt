@@ -95,6 +95,18 @@ enum-known-time c = search needs
 clock-requires : tie.Need-clock-requires
 clock-requires c κs = search needs
 
+enum-known-lender : tie.Need-enum-known-lender
+enum-known-lender c = search needs
+
+lend-requires : tie.Need-lend-requires
+lend-requires c κs = let numbers = told-ranged _ _ _ (c .before .before .before .before .action .ensures) (c .before .before .lender .given .1) in (c .before .before .before .before .before .pre .0, numbers .0, numbers .1, numbers .2, numbers .3)
+
+enum-known-lender-2 : tie.Need-enum-known-lender-2
+enum-known-lender-2 c = search needs
+
+recall-requires : tie.Need-recall-requires
+recall-requires c κs = search needs
+
 returns : tie.Need-returns
 unfolding check
 returns c = told-decided _ _ _ (c .before .before .before .action .ensures) (c .before .enum-told .given .1) _ _ _ (rw (c .refused .ensures) (decide-refused _ _ _ 20 refl))
@@ -138,6 +150,12 @@ returns-13 c = told-decided _ _ _ (c .before .before .before .before .action .en
 returns-14 : tie.Need-returns-14
 returns-14 c = told-decided _ _ _ (c .before .before .before .before .action .ensures) (c .before .before .time .given .1) _ _ _ (c .clock .ensures _)
 
+returns-15 : tie.Need-returns-15
+returns-15 c = told-decided _ _ _ (c .before .before .before .before .before .action .ensures) (c .before .before .before .lender .given .1) _ _ _ (c .lend .ensures)
+
+returns-16 : tie.Need-returns-16
+returns-16 c = told-decided _ _ _ (c .before .before .before .before .action .ensures) (c .before .before .lender2 .given .1) _ _ _ (c .recall .ensures _)
+
 pub decided-spec : {M : Type 1} → statement M
 decided-spec =
     tie.close
@@ -171,6 +189,10 @@ decided-spec =
     lost-requires
     enum-known-time
     clock-requires
+    enum-known-lender
+    lend-requires
+    enum-known-lender-2
+    recall-requires
     returns
     returns-2
     returns-3
@@ -184,4 +206,6 @@ decided-spec =
     returns-11
     returns-12
     returns-13
-    returns-14)
+    returns-14
+    returns-15
+    returns-16)

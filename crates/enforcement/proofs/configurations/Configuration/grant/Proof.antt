@@ -2,11 +2,14 @@
 -- Assumes nothing.
 use mathlib.Core.Path.{_≡_, refl, sym, _∙_}
 use mathlib.Core.Bool.{Bool}
+use mathlib.Core.Logic.{inr}
+use lib.ListN.{set}
 use lib.Seq.{set-set, set-getD}
 use Rattle.sets.specs.Sets.{member}
 use Rattle.rules.specs.Families.{permissionsOf}
-use Rattle.enforcement.specs.Steps.{check, target}
-use Rattle.enforcement.proofs.Agreement.{none-ended}
+use Rattle.enforcement.specs.Steps.{check, target, withGranted}
+use Rattle.enforcement.specs.Deciding.{stateWith}
+use Rattle.enforcement.proofs.EndedPairs.{none-ended}
 use Rattle.enforcement.proofs.RequestLaws.{carries-word, decide-refused, granted-decided, broken-decided}
 use borrow.Author.Needs.{needs}
 use Rattle.enforcement.proofs.configurations.Configuration.grant.Statement.{statement}
@@ -55,9 +58,8 @@ granted-requires c κs = search needs
 
 returns-2 : tie.Need-returns-2
 unfolding check target
-returns-2 c =
-    rw (c .granted .ensures)
-    (granted-decided _ _ _ _ _ (c .before .before .before .judge .ensures) (rw (sym (asked (c .before .before .before .before .before .before .before .before .before .before .before)) ∙ c .before .before .before .before .before .before .before .before .before .before .if1 .left)) refl (rw (c .before .before .before .before .before .before .before .before .before .with .ensures)) _ (c .before .enum-told .given .1) (sym (none-ended _)))
+returns-2 c = rw (c .granted .ensures)
+    (granted-decided _ _ _ _ _ _ (c .before .before .before .judge .ensures) (inr refl) (rw (sym (asked (c .before .before .before .before .before .before .before .before .before .before .before .before)) ∙ c .before .before .before .before .before .before .before .before .before .before .before .if1 .left)) refl (rw (c .before .before .before .before .before .before .before .before .before .before .with .ensures)) _ (c .before .enum-told .given .1) (sym (none-ended _)))
 
 mul-self-2 : tie.Need-mul-self-2
 mul-self-2 c = search needs
@@ -71,8 +73,10 @@ refused-by-rule-requires c κs = search needs
 returns-3 : tie.Need-returns-3
 unfolding check target
 returns-3 c =
+    let start = c .before .before .before .before .before .before .before .before .before .before .before .before .before .before .before in
+    let s = stateWith (start .args .t1) (start .args .history .now) in
     rw (c .refused-by-rule .ensures, set-set, set-getD)
-    (broken-decided _ _ _ _ _ (c .before .before .before .before .judge .ensures) (rw (sym (asked (c .before .before .before .before .before .before .before .before .before .before .before .before)) ∙ c .before .before .before .before .before .before .before .before .before .before .before .if1 .left)) refl (rw (c .before .before .before .before .before .before .before .before .before .before .with .ensures)) _ (c .before .before .broken .given .1))
+    (broken-decided _ s (withGranted s (set (s .granted) (start .args .role) (c .before .before .before .before .before .before .before .before .before .before .before .with .result))) _ _ _ (c .before .before .before .before .judge .ensures) (inr refl) (rw (sym (asked (c .before .before .before .before .before .before .before .before .before .before .before .before .before)) ∙ c .before .before .before .before .before .before .before .before .before .before .before .before .if1 .left)) refl (rw (c .before .before .before .before .before .before .before .before .before .before .before .with .ensures)) _ (c .before .before .broken .given .1))
 
 pub grant-spec : {M : Type 1} → statement M
 grant-spec =

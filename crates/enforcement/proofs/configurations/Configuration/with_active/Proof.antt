@@ -1,6 +1,7 @@
 -- `enforcement::configurations::Configuration::with_active` meets its contract: the judged target, or the state with the old word put back.
 -- Assumes nothing.
 use mathlib.Core.Path.{_≡_, sym, _∙_}
+use mathlib.Core.Logic.{inr}
 use Prim.Native.Nat.{_<_}
 use native.Mathlib.Omega.{arith}
 use lib.ListN.{length, length-map}
@@ -12,7 +13,7 @@ use Rattle.enforcement.proofs.configurations.Configuration.with_active.
 
 session-below : (c : tie.Start) → c .args .session < length (c .args .t1 .active)
 session-below c =
-    let long : length (c .args .t1 .active) ≡ 32 = sym (length-map (c .args .t1 .active) _) ∙ c .good .0 .1 .1 .1 .1 .1 .1 .0 .1 .0 .1 in
+    let long : length (c .args .t1 .active) ≡ 32 = sym (length-map (c .args .t1 .active) _) ∙ c .good .0 .1 .1 .1 .1 .1 .1 .1 .0 .1 .0 .1 in
     omega (arith, long, c .pre .1)
 
 mul-old : tie.Need-mul-old
@@ -43,7 +44,7 @@ granted-requires : tie.Need-granted-requires
 granted-requires c κs = search needs
 
 returns : tie.Need-returns
-returns c = rw (c .granted .ensures) (request-granted _ _ _ _ _ (c .before .before .before .before .judge .ensures) _ (c .before .before .enum-told .given .1) (c .before .fewer .ensures .number ∙ ended-one _ _ _ (session-below (c .before .before .before .before .before .before .before .before .before .before .before))))
+returns c = rw (c .granted .ensures) (request-granted _ _ _ _ _ _ (c .before .before .before .before .judge .ensures) (inr (c .before .before .before .before .before .before .before .before .before .before .before .before .pre .2)) _ (c .before .before .enum-told .given .1) (c .before .fewer .ensures .number ∙ ended-one _ _ _ (session-below (c .before .before .before .before .before .before .before .before .before .before .before .before))))
 
 mul-self-2 : tie.Need-mul-self-2
 mul-self-2 c = search needs
@@ -55,7 +56,7 @@ refused-by-rule-requires : tie.Need-refused-by-rule-requires
 refused-by-rule-requires c κs = search needs
 
 returns-2 : tie.Need-returns-2
-returns-2 c = rw (c .refused-by-rule .ensures, set-set, set-getD) (request-broken _ _ _ _ _ (c .before .before .before .before .judge .ensures) _ (c .before .before .broken .given .1))
+returns-2 c = rw (c .refused-by-rule .ensures, set-set, set-getD) (request-broken _ _ _ _ _ _ (c .before .before .before .before .judge .ensures) (inr (c .before .before .before .before .before .before .before .before .before .before .before .before .pre .2)) _ (c .before .before .broken .given .1))
 
 pub with-active-spec : {M : Type 1} → statement M
 with-active-spec =

@@ -1,6 +1,7 @@
 -- `enforcement::configurations::Configuration::withdraw` meets its contract.
 -- Assumes nothing.
 use mathlib.Core.Path.{refl, sym, _∙_}
+use Rattle.loans.specs.Meant.{meant}
 use Rattle.enforcement.proofs.RequestLaws.{decide-refused, decide-request, not-told}
 use Rattle.enforcement.specs.Steps.{check, target}
 use borrow.Author.Needs.{needs}
@@ -26,12 +27,15 @@ returns c = rw (c .refused .ensures) (decide-refused _ _ _ 25 (rw (not-told (c .
 is-active-for-requires : tie.Need-is-active-for-requires
 is-active-for-requires c κs = search needs
 
+has-some-requires : tie.Need-has-some-requires
+has-some-requires c κs = search needs
+
 refused-requires-2 : tie.Need-refused-requires-2
 refused-requires-2 c κs = search needs
 
 returns-2 : tie.Need-returns-2
-unfolding check
-returns-2 c = rw (c .refused2 .ensures) (decide-refused _ _ _ 27 (rw (not-told (c .before .before .before .before .before .before .before .member .ensures) (c .before .before .before .before .before .before .if1 .left), sym (c .before .before .is-active-for .ensures) ∙ c .before .if2 .taken)))
+unfolding check meant
+returns-2 c = rw (c .refused2 .ensures) (decide-refused _ _ _ 27 (rw (not-told (c .before .before .before .before .before .before .before .before .before .member .ensures) (c .before .before .before .before .before .before .before .before .if1 .left), ← c .before .before .before .is-active-for .ensures, ← c .before .before .has-some .ensures, c .before .if2 .taken)))
 
 without-requires : tie.Need-without-requires
 without-requires c κs = search needs
@@ -40,8 +44,8 @@ with-assigned-requires : tie.Need-with-assigned-requires
 with-assigned-requires c κs = search needs
 
 returns-3 : tie.Need-returns-3
-unfolding check target
-returns-3 c = c .with-assigned .ensures ∙ rw (c .before .without .ensures) (decide-request _ _ _ (rw (not-told (c .before .before .before .before .before .before .before .before .member .ensures) (c .before .before .before .before .before .before .before .if1 .left), sym (c .before .before .before .is-active-for .ensures) ∙ c .before .before .if2 .left)) refl)
+unfolding check target meant
+returns-3 c = c .with-assigned .ensures ∙ rw (c .before .without .ensures) (decide-request _ _ _ (rw (not-told (c .before .before .before .before .before .before .before .before .before .before .member .ensures) (c .before .before .before .before .before .before .before .before .before .if1 .left), ← c .before .before .before .before .is-active-for .ensures, ← c .before .before .before .has-some .ensures, c .before .before .if2 .left)) refl)
 
 pub withdraw-spec : {M : Type 1} → statement M
 withdraw-spec =
@@ -53,6 +57,7 @@ withdraw-spec =
     refused-requires
     returns
     is-active-for-requires
+    has-some-requires
     refused-requires-2
     returns-2
     without-requires

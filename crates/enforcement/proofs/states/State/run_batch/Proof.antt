@@ -37,7 +37,7 @@ is-accepted-requires-2 c κs = search needs
 returns : tie.Need-returns Inv-loop μ-loop
 unfolding stateAccepted
 returns c =
-    let start = c .before .before .before .before .before .before in
+    let start = c .before .before .before .before .before .before .before in
     batch-refused (start .args .list) (start .args .t1)
     (ap₂ (λ (a d : Bool). a && d) (sym (c .before .before .before .before .is-accepted .ensures)) (sym (c .before .is-accepted2 .ensures)) ∙ not-true _ (c .if1 .taken))
     (start .args .t3) (steps-length start)
@@ -48,7 +48,7 @@ configuration-requires c κs = search needs
 loop-holds : tie.Need-loop-holds Inv-loop μ-loop
 unfolding stateAccepted
 loop-holds c =
-    let start = c .before .before .before .before .before .before .before in
+    let start = c .before .before .before .before .before .before .before .before in
     batch-start (start .args .list) (start .args .t1) (start .args .t3) (c .configuration .result) _ (steps-length start) (typed-state (start .args .t1) _ (start .good .0))
     (ap₂ (λ (a d : Bool). a && d) (sym (c .before .before .before .before .before .is-accepted .ensures)) (sym (c .before .before .is-accepted2 .ensures)) ∙ not-false _ (c .before .if1 .left))
     (c .configuration .ensures)

@@ -46,8 +46,8 @@ refused-requires-2 c κs = search needs
 returns-2 : tie.Need-returns-2
 unfolding stateAccepted
 returns-2 c =
-    let start = c .before .before .before .before .before .before .before .before in
-    let listed = sym (c .before .before .before .before .before .before .before .is-accepted .ensures) ∙ not-false _ (c .before .before .before .before .before .before .if1 .left) in
+    let start = c .before .before .before .before .before .before .before .before .before in
+    let listed = sym (c .before .before .before .before .before .before .before .before .is-accepted .ensures) ∙ not-false _ (c .before .before .before .before .before .before .before .if1 .left) in
     both-kept start _
     (c .refused2 .ensures ∙ step-unaccepted (start .args .list) (start .args .t1) (start .args .step) (ap₂ (λ (a d : Bool). a && d) listed (sym (c .before .before .is-accepted2 .ensures) ∙ not-true _ (c .before .if2 .taken))))
 
@@ -55,7 +55,9 @@ configuration-requires : tie.Need-configuration-requires
 configuration-requires c κs = search needs
 
 decided-requires : tie.Need-decided-requires
-decided-requires c κs = (accepted-length _ (sym (c .before .before .before .before .before .before .before .before .before .is-accepted .ensures) ∙ not-false _ (c .before .before .before .before .before .before .before .before .if1 .left)), search needs)
+decided-requires c κs =
+    let start = c .before .before .before .before .before .before .before .before .before .before .before in
+    (accepted-length _ (sym (c .before .before .before .before .before .before .before .before .before .before .is-accepted .ensures) ∙ not-false _ (c .before .before .before .before .before .before .before .before .before .if1 .left)), typed-state (start .args .t1) _ (start .good .0) .records)
 
 with-history-requires : tie.Need-with-history-requires
 with-history-requires c κs = search needs
@@ -63,8 +65,8 @@ with-history-requires c κs = search needs
 returns-3 : tie.Need-returns-3
 unfolding stateAccepted
 returns-3 c =
-    let start = c .before .before .before .before .before .before .before .before .before .before .before .before .before in
-    let listed = sym (c .before .before .before .before .before .before .before .before .before .before .before .before .is-accepted .ensures) ∙ not-false _ (c .before .before .before .before .before .before .before .before .before .before .before .if1 .left) in
+    let start = c .before .before .before .before .before .before .before .before .before .before .before .before .before .before in
+    let listed = sym (c .before .before .before .before .before .before .before .before .before .before .before .before .before .is-accepted .ensures) ∙ not-false _ (c .before .before .before .before .before .before .before .before .before .before .before .before .if1 .left) in
     let stated = sym (c .before .before .before .before .before .before .before .is-accepted2 .ensures) ∙ not-false _ (c .before .before .before .before .before .before .if2 .left) in
     both-kept start _
     (step-parts (start .args .list) (start .args .t1) (start .args .step) _ _ _ _ (ap₂ (λ (a d : Bool). a && d) listed stated) (c .before .before .before .before .configuration .ensures) (c .before .before .decided .ensures) (c .with-history .ensures))

@@ -1,7 +1,6 @@
 -- `state_text::entries::Entry::of_values` meets its contract.
 -- Assumes nothing.
 use mathlib.Core.Path.{_≡_, sym, _∙_}
-use native.Mathlib.Omega.{arith}
 use mir.Syntax.{w32}
 use mir.Val.{toZ, ofZ}
 use Rattle.state_text.specs.Entries.{entryOf}
@@ -34,6 +33,18 @@ element-copy-out-t24 c = search needs
 element-copy-out-t27 : tie.Need-element-copy-out-t27
 element-copy-out-t27 c = search needs
 
+element-copy-out-t30 : tie.Need-element-copy-out-t30
+element-copy-out-t30 c = search needs
+
+element-copy-out-t33 : tie.Need-element-copy-out-t33
+element-copy-out-t33 c = search needs
+
+element-copy-out-t36 : tie.Need-element-copy-out-t36
+element-copy-out-t36 c = search needs
+
+element-copy-out-t39 : tie.Need-element-copy-out-t39
+element-copy-out-t39 c = search needs
+
 element-copy-out-coordinate : tie.Need-element-copy-out-coordinate
 element-copy-out-coordinate c = search needs
 
@@ -46,20 +57,20 @@ element-copy-out-coordinate-2 c = search needs
 coordinate-requires-2 : tie.Need-coordinate-requires-2
 coordinate-requires-2 c κs = search needs
 
-element-copy-out-t38 : tie.Need-element-copy-out-t38
-element-copy-out-t38 c = search needs
-
-element-copy-out-t41 : tie.Need-element-copy-out-t41
-element-copy-out-t41 c = search needs
-
-element-copy-out-t44 : tie.Need-element-copy-out-t44
-element-copy-out-t44 c = search needs
-
-element-copy-out-t47 : tie.Need-element-copy-out-t47
-element-copy-out-t47 c = search needs
-
 element-copy-out-t50 : tie.Need-element-copy-out-t50
 element-copy-out-t50 c = search needs
+
+element-copy-out-t53 : tie.Need-element-copy-out-t53
+element-copy-out-t53 c = search needs
+
+element-copy-out-t56 : tie.Need-element-copy-out-t56
+element-copy-out-t56 c = search needs
+
+element-copy-out-t59 : tie.Need-element-copy-out-t59
+element-copy-out-t59 c = search needs
+
+element-copy-out-t62 : tie.Need-element-copy-out-t62
+element-copy-out-t62 c = search needs
 
 returns : tie.Need-returns
 unfolding entryOf
@@ -75,21 +86,27 @@ returns-3 c = rw (c .before .before .match .keys3)
 
 returns-4 : tie.Need-returns-4
 unfolding entryOf
-returns-4 c = rw (c .before .before .match .keys4)
+returns-4 c = rw (c .before .before .before .before .match .keys4)
 
 returns-5 : tie.Need-returns-5
 unfolding entryOf
-returns-5 c =
-    let x : toZ w32 (ofZ w32 (c .before .before .coordinate .result)) ≡ c .before .before .coordinate .result = search needs in
-    let y : toZ w32 (ofZ w32 (c .coordinate2 .result)) ≡ c .coordinate2 .result = search needs in
-    rw (c .before .before .before .before .before .match .keys5, x ∙ c .before .before .coordinate .ensures, y ∙ c .coordinate2 .ensures)
+returns-5 c = rw (c .before .before .match .keys5)
 
 returns-6 : tie.Need-returns-6
 unfolding entryOf
-returns-6 c = rw (c .before .before .match .keys6)
+returns-6 c =
+    let x : toZ w32 (ofZ w32 (c .before .before .coordinate .result)) ≡ c .before .before .coordinate .result = search needs in
+    let y : toZ w32 (ofZ w32 (c .coordinate2 .result)) ≡ c .coordinate2 .result = search needs in
+    rw (c .before .before .before .before .before .match .keys6, x ∙ c .before .before .coordinate .ensures, y ∙ c .coordinate2 .ensures)
 
 returns-7 : tie.Need-returns-7
-returns-7 c = sym (entry-did (c .before .before .before .before .args .form) _ (omega arith))
+unfolding entryOf
+returns-7 c = rw (c .before .before .match .keys7)
+
+returns-8 : tie.Need-returns-8
+returns-8 c =
+    let other = c .before .before .before .match .rest in
+    sym (entry-did (c .before .before .before .before .args .form) _ (other .0 .0 .0 .0 .0 .0 .1) (other .0 .0 .0 .0 .0 .1) (other .0 .0 .0 .0 .1) (other .0 .0 .0 .1) (other .0 .0 .1) (other .0 .1) (other .1))
 
 pub of-values-spec : {M : Type 1} → statement M
 of-values-spec =
@@ -103,19 +120,24 @@ of-values-spec =
     element-copy-out-t21
     element-copy-out-t24
     element-copy-out-t27
+    element-copy-out-t30
+    element-copy-out-t33
+    element-copy-out-t36
+    element-copy-out-t39
     element-copy-out-coordinate
     coordinate-requires
     element-copy-out-coordinate-2
     coordinate-requires-2
-    element-copy-out-t38
-    element-copy-out-t41
-    element-copy-out-t44
-    element-copy-out-t47
     element-copy-out-t50
+    element-copy-out-t53
+    element-copy-out-t56
+    element-copy-out-t59
+    element-copy-out-t62
     returns
     returns-2
     returns-3
     returns-4
     returns-5
     returns-6
-    returns-7)
+    returns-7
+    returns-8)

@@ -14,6 +14,9 @@ enum-told-2 c = search needs
 enum-told-3 : tie.Need-enum-told-3
 enum-told-3 c = search needs
 
+enum-told-4 : tie.Need-enum-told-4
+enum-told-4 c = search needs
+
 enum-known-self : tie.Need-enum-known-self
 enum-known-self c = search needs
 
@@ -23,8 +26,8 @@ enum-known-self-2 c = search needs
 enum-known-self-3 : tie.Need-enum-known-self-3
 enum-known-self-3 c = search needs
 
-enum-told-4 : tie.Need-enum-told-4
-enum-told-4 c = search needs
+enum-told-5 : tie.Need-enum-told-5
+enum-told-5 c = search needs
 
 returns : tie.Need-returns
 unfolding sessionOf
@@ -40,19 +43,23 @@ returns-3 c = rw (c .enum-told3 .given .1)
 
 returns-4 : tie.Need-returns-4
 unfolding sessionOf
-returns-4 c = rw (c .before .self .given .1)
+returns-4 c = rw (c .enum-told4 .given .1)
 
 returns-5 : tie.Need-returns-5
 unfolding sessionOf
-returns-5 c = rw (c .before .self2 .given .1)
+returns-5 c = rw (c .before .self .given .1)
 
 returns-6 : tie.Need-returns-6
 unfolding sessionOf
-returns-6 c = rw (c .before .self3 .given .1)
+returns-6 c = rw (c .before .self2 .given .1)
 
 returns-7 : tie.Need-returns-7
 unfolding sessionOf
-returns-7 c = rw (c .enum-told4 .given .1)
+returns-7 c = rw (c .before .self3 .given .1)
+
+returns-8 : tie.Need-returns-8
+unfolding sessionOf
+returns-8 c = rw (c .enum-told5 .given .1)
 
 pub session-spec : {M : Type 1} → statement M
 session-spec =
@@ -61,14 +68,16 @@ session-spec =
     enum-told
     enum-told-2
     enum-told-3
+    enum-told-4
     enum-known-self
     enum-known-self-2
     enum-known-self-3
-    enum-told-4
+    enum-told-5
     returns
     returns-2
     returns-3
     returns-4
     returns-5
     returns-6
-    returns-7)
+    returns-7
+    returns-8)

@@ -23,17 +23,20 @@ enum-known-self-4 c = search needs
 enum-known-self-5 : tie.Need-enum-known-self-5
 enum-known-self-5 c = search needs
 
+enum-known-self-6 : tie.Need-enum-known-self-6
+enum-known-self-6 c = search needs
+
 signed-code-requires : tie.Need-signed-code-requires
 signed-code-requires c κs = search needs
 
 signed-code-requires-2 : tie.Need-signed-code-requires-2
 signed-code-requires-2 c κs = search needs
 
-enum-known-self-6 : tie.Need-enum-known-self-6
-enum-known-self-6 c = search needs
-
 enum-known-self-7 : tie.Need-enum-known-self-7
 enum-known-self-7 c = search needs
+
+enum-known-self-8 : tie.Need-enum-known-self-8
+enum-known-self-8 c = search needs
 
 returns : tie.Need-returns
 unfolding valuesOf
@@ -53,18 +56,22 @@ returns-4 c = rw (c .before .self4 .given .1)
 
 returns-5 : tie.Need-returns-5
 unfolding valuesOf
-returns-5 c =
-    let x : toZ w32 (ofZ w32 (c .before .before .before .self5 .given .0 .1 .0)) ≡ c .before .before .before .self5 .given .0 .1 .0 = search needs in
-    let y : toZ w32 (ofZ w32 (c .before .before .before .self5 .given .0 .1 .1 .0)) ≡ c .before .before .before .self5 .given .0 .1 .1 .0 = search needs in
-    rw (c .before .before .before .self5 .given .1, c .before .signed-code .ensures, c .signed-code2 .ensures, x, y)
+returns-5 c = rw (c .before .self5 .given .1)
 
 returns-6 : tie.Need-returns-6
 unfolding valuesOf
-returns-6 c = rw (c .before .self6 .given .1)
+returns-6 c =
+    let x : toZ w32 (ofZ w32 (c .before .before .before .self6 .given .0 .1 .0)) ≡ c .before .before .before .self6 .given .0 .1 .0 = search needs in
+    let y : toZ w32 (ofZ w32 (c .before .before .before .self6 .given .0 .1 .1 .0)) ≡ c .before .before .before .self6 .given .0 .1 .1 .0 = search needs in
+    rw (c .before .before .before .self6 .given .1, c .before .signed-code .ensures, c .signed-code2 .ensures, x, y)
 
 returns-7 : tie.Need-returns-7
 unfolding valuesOf
 returns-7 c = rw (c .before .self7 .given .1)
+
+returns-8 : tie.Need-returns-8
+unfolding valuesOf
+returns-8 c = rw (c .before .self8 .given .1)
 
 pub values-spec : {M : Type 1} → statement M
 values-spec =
@@ -75,14 +82,16 @@ values-spec =
     enum-known-self-3
     enum-known-self-4
     enum-known-self-5
+    enum-known-self-6
     signed-code-requires
     signed-code-requires-2
-    enum-known-self-6
     enum-known-self-7
+    enum-known-self-8
     returns
     returns-2
     returns-3
     returns-4
     returns-5
     returns-6
-    returns-7)
+    returns-7
+    returns-8)

@@ -1,4 +1,4 @@
--- `steps::steps::Step::action` meets its contract. A kind that no arm names is none of the thirteen.
+-- `steps::steps::Step::action` meets its contract. A kind that no arm names is none of the fifteen.
 -- Assumes nothing.
 use borrow.Author.Needs.{needs}
 use borrow.Author.Tests.{ne-eqb}
@@ -47,6 +47,12 @@ ranged-requires-11 c κs = search needs
 
 ranged-requires-12 : tie.Need-ranged-requires-12
 ranged-requires-12 c κs = search needs
+
+ranged-requires-13 : tie.Need-ranged-requires-13
+ranged-requires-13 c κs = search needs
+
+ranged-requires-14 : tie.Need-ranged-requires-14
+ranged-requires-14 c κs = search needs
 
 returns : tie.Need-returns
 unfolding actionOf
@@ -106,22 +112,32 @@ returns-13 c = rw (c .before .before .match .keys13) (c .ranged12 .ensures)
 
 returns-14 : tie.Need-returns-14
 unfolding actionOf
-returns-14 c =
+returns-14 c = rw (c .before .before .match .keys14) (c .ranged13 .ensures)
+
+returns-15 : tie.Need-returns-15
+unfolding actionOf
+returns-15 c = rw (c .before .match .keys15) (c .ranged14 .ensures)
+
+returns-16 : tie.Need-returns-16
+unfolding actionOf
+returns-16 c =
     let not-kind = c .match .rest in
     rw (
-      ne-eqb _ 0 (not-kind .0 .0 .0 .0 .0 .0 .0 .0 .0 .0 .0 .0 .1),
-      ne-eqb _ 1 (not-kind .0 .0 .0 .0 .0 .0 .0 .0 .0 .0 .0 .1),
-      ne-eqb _ 2 (not-kind .0 .0 .0 .0 .0 .0 .0 .0 .0 .0 .1),
-      ne-eqb _ 3 (not-kind .0 .0 .0 .0 .0 .0 .0 .0 .0 .1),
-      ne-eqb _ 4 (not-kind .0 .0 .0 .0 .0 .0 .0 .0 .1),
-      ne-eqb _ 5 (not-kind .0 .0 .0 .0 .0 .0 .0 .1),
-      ne-eqb _ 6 (not-kind .0 .0 .0 .0 .0 .0 .1),
-      ne-eqb _ 7 (not-kind .0 .0 .0 .0 .0 .1),
-      ne-eqb _ 8 (not-kind .0 .0 .0 .0 .1),
-      ne-eqb _ 9 (not-kind .0 .0 .0 .1),
-      ne-eqb _ 10 (not-kind .0 .0 .1),
-      ne-eqb _ 11 (not-kind .0 .1),
-      ne-eqb _ 12 (not-kind .1),
+      ne-eqb _ 0 (not-kind .0 .0 .0 .0 .0 .0 .0 .0 .0 .0 .0 .0 .0 .0 .1),
+      ne-eqb _ 1 (not-kind .0 .0 .0 .0 .0 .0 .0 .0 .0 .0 .0 .0 .0 .1),
+      ne-eqb _ 2 (not-kind .0 .0 .0 .0 .0 .0 .0 .0 .0 .0 .0 .0 .1),
+      ne-eqb _ 3 (not-kind .0 .0 .0 .0 .0 .0 .0 .0 .0 .0 .0 .1),
+      ne-eqb _ 4 (not-kind .0 .0 .0 .0 .0 .0 .0 .0 .0 .0 .1),
+      ne-eqb _ 5 (not-kind .0 .0 .0 .0 .0 .0 .0 .0 .0 .1),
+      ne-eqb _ 6 (not-kind .0 .0 .0 .0 .0 .0 .0 .0 .1),
+      ne-eqb _ 7 (not-kind .0 .0 .0 .0 .0 .0 .0 .1),
+      ne-eqb _ 8 (not-kind .0 .0 .0 .0 .0 .0 .1),
+      ne-eqb _ 9 (not-kind .0 .0 .0 .0 .0 .1),
+      ne-eqb _ 10 (not-kind .0 .0 .0 .0 .1),
+      ne-eqb _ 11 (not-kind .0 .0 .0 .1),
+      ne-eqb _ 12 (not-kind .0 .0 .1),
+      ne-eqb _ 13 (not-kind .0 .1),
+      ne-eqb _ 14 (not-kind .1),
     )
 
 pub action-spec : {M : Type 1} → statement M
@@ -141,6 +157,8 @@ action-spec =
     move-to-requires
     ranged-requires-11
     ranged-requires-12
+    ranged-requires-13
+    ranged-requires-14
     returns
     returns-2
     returns-3
@@ -154,4 +172,6 @@ action-spec =
     returns-11
     returns-12
     returns-13
-    returns-14)
+    returns-14
+    returns-15
+    returns-16)
