@@ -544,13 +544,13 @@ module _ {M : Type 1} (𝓤 : URA M) (H : Heap 𝓤) (A : Atoms 𝓤) (W : Given
     fm : FmC 𝓤 H (W .laws) (𝓣 .C)
     fm = fmOf 𝓤 H (W .laws) 𝓣
 
-    module _ (gp : IsAdmission admitted) (l₀ l₁ l₂ l₃ l₄ l₅ l₆ l₇ l₈ l₉ l₁₀ l₁₁ l₁₂ l₁₃ l₁₄ l₁₅ l₁₆ l₁₇ l₁₈ l₁₉ l₂₀ l₂₁ l₂₂ : ℕ) where
+    module _ (l₀ l₁ l₂ l₃ l₄ l₅ l₆ l₇ l₈ l₉ l₁₀ l₁₁ l₁₂ l₁₃ l₁₄ l₁₅ l₁₆ l₁₇ l₁₈ l₁₉ l₂₀ l₂₁ l₂₂ : ℕ) where
       abbrev En : Env 𝓤 H
       En = (RanL.mir, l₀) ∷ (ListL.mir, l₁) ∷ (StateL.mir, l₂) ∷ (stepsTy, l₃) ∷ (answersTy, l₄) ∷ (AdmissionL.mir, l₅) ∷ (word, l₆) ∷ (historyTy, l₇) ∷ (NextL.mir, l₈) ∷ (word, l₉) ∷ (word, l₁₀) ∷ (word, l₁₁) ∷ (ConfigurationL.mir, l₁₂) ∷ (AnswerL.mir, l₁₃) ∷ (tyBool, l₁₄) ∷ (word, l₁₅) ∷ (tyPtr, l₁₆) ∷ (StepL.mir, l₁₇) ∷ (tyRef erased mut historyTy, l₁₈) ∷ (word, l₁₉) ∷ (tyPtr, l₂₀) ∷ (StateL.mir, l₂₁) ∷ (historyTy, l₂₂) ∷ []
 
-      -- the locals, local k at 2 · (22 − k), with what stands in those that are made of the state and in i, and what stands after them
-      abbrev Locals-with : (answer configuration i last history : Item 𝓤) → List (Item 𝓤) → List (Item 𝓤)
-      Locals-with answer configuration i last history Γ = ‵ (froom historyTy l₂₂ 0) ∷ ‵ (fdies historyTy l₂₂)
+      -- the locals, local k at 2 · (22 − k), with what stands in those that are written before the loop or in it, and what stands after them
+      abbrev Locals-all : (answer configuration answers-length steps-length i last history count admission : Item 𝓤) → List (Item 𝓤) → List (Item 𝓤)
+      Locals-all answer configuration answers-length steps-length i last history count admission Γ = ‵ (froom historyTy l₂₂ 0) ∷ ‵ (fdies historyTy l₂₂)
           ∷ ‵ (froom StateL.mir l₂₁ 0) ∷ ‵ (fdies StateL.mir l₂₁)
           ∷ ‵ (froom tyPtr l₂₀ 0) ∷ ‵ (fdies tyPtr l₂₀)
           ∷ ‵ (froom word l₁₉ 0) ∷ ‵ (fdies word l₁₉)
@@ -561,19 +561,23 @@ module _ {M : Type 1} (𝓤 : URA M) (H : Heap 𝓤) (A : Atoms 𝓤) (W : Given
           ∷ ‵ (froom tyBool l₁₄ 0) ∷ ‵ (fdies tyBool l₁₄)
           ∷ answer ∷ ‵ (fdies AnswerL.mir l₁₃)
           ∷ configuration ∷ ‵ (fdies ConfigurationL.mir l₁₂)
-          ∷ ‵ (fat fullShare word l₁₁ 0 (vint w64 m)) ∷ ‵ (fdies word l₁₁)
-          ∷ ‵ (fat fullShare word l₁₀ 0 (vint w64 n)) ∷ ‵ (fdies word l₁₀)
+          ∷ answers-length ∷ ‵ (fdies word l₁₁)
+          ∷ steps-length ∷ ‵ (fdies word l₁₀)
           ∷ i ∷ ‵ (fdies word l₉)
           ∷ last ∷ ‵ (fdies NextL.mir l₈)
           ∷ history ∷ ‵ (fdies historyTy l₇)
-          ∷ ‵ (fat fullShare word l₆ 0 (vint w64 count)) ∷ ‵ (fdies word l₆)
-          ∷ ‵ (fat fullShare AdmissionL.mir l₅ 0 (admission-val admitted)) ∷ ‵ (fdies AdmissionL.mir l₅)
+          ∷ count ∷ ‵ (fdies word l₆)
+          ∷ admission ∷ ‵ (fdies AdmissionL.mir l₅)
           ∷ ‵ (fat fullShare answersTy l₄ 0 (sliceVal (b′, o′) m)) ∷ ‵ (fdies answersTy l₄)
           ∷ ‵ (fat fullShare stepsTy l₃ 0 (sliceVal (b, o) n)) ∷ ‵ (fdies stepsTy l₃)
           ∷ ‵ (fat fullShare StateL.mir l₂ 0 (state-val st₀)) ∷ ‵ (fdies StateL.mir l₂)
           ∷ ‵ (fat fullShare ListL.mir l₁ 0 (list-val list)) ∷ ‵ (fdies ListL.mir l₁)
           ∷ ‵ (froom RanL.mir l₀ 0) ∷ ‵ (fdies RanL.mir l₀)
           ∷ Γ
+
+      -- once the list is admitted or refused
+      abbrev Locals-with : (answer configuration i last history : Item 𝓤) → List (Item 𝓤) → List (Item 𝓤)
+      Locals-with answer configuration i last history Γ = Locals-all answer configuration (‵ (fat fullShare word l₁₁ 0 (vint w64 m))) (‵ (fat fullShare word l₁₀ 0 (vint w64 n))) i last history (‵ (fat fullShare word l₆ 0 (vint w64 count))) (‵ (fat fullShare AdmissionL.mir l₅ 0 (admission-val admitted))) Γ
 
       abbrev configured : Item 𝓤
       configured = ‵ (fat fullShare ConfigurationL.mir l₁₂ 0 (configuration-val (configurationOf st₀)))
@@ -593,9 +597,9 @@ module _ {M : Type 1} (𝓤 : URA M) (H : Heap 𝓤) (A : Atoms 𝓤) (W : Given
       abbrev Turned : At-point → Out → SProp 𝓤
       Turned x = afterTurn 𝓤 H (Below 𝓤 H A Nearer At x) (afterBlock 𝓤 H (afterSeq 𝓤 H (Wp 𝓤 H C Λ En mir′.t-11 (atReturn 𝓤 H En Post)) (atReturn 𝓤 H En Post)))
 
-      turns : (x : At-point) → Sq W (At x) (runs C Λ En mir′.turn-1 (anyQ (Turned x)))
+      turns : IsAdmission admitted → (x : At-point) → Sq W (At x) (runs C Λ En mir′.turn-1 (anyQ (Turned x)))
       unfolding afterTurn next
-      turns x =
+      turns gp x =
           assigns ! (bin ! (load ! (from ! (stop !)) (look ! 31 refl)) (load ! (from ! (stop !)) (look ! 37 refl)) tt) (from ! (stop !)) (init ! 21 refl (tt, tt)) $
           first ! $ branches ! (load ! (from ! (stop !)) (look ! 21 refl))
           (λ less. skips ! $ exec ! C Λ En more (anyQ (Turned x)) $
@@ -682,26 +686,26 @@ module _ {M : Type 1} (𝓤 : URA M) (H : Heap 𝓤) (A : Atoms 𝓤) (W : Given
       abbrev passed : List (Item 𝓤)
       passed = (‵ (flft κ q) ⊛ ‵ (flft κ′ q′) ⊛ ‵ ftrue) ∷ owned-all ∷ []
 
-      loop-runs : Sq W (Locals 0 (before-all st₀) (st₀ .history) passed) (runs C Λ En mir′.t-10 (atRet En Post))
-      loop-runs =
+      loop-runs : IsAdmission admitted → Sq W (Locals 0 (before-all st₀) (st₀ .history) passed) (runs C Λ En mir′.t-10 (atRet En Post))
+      loop-runs gp =
           -- [the locals; the tokens; what the parameters own]
           move ! (47 ∷ []) $ fsplit ! $ drop ! $ fsplit ! $ drop ! $ fsplit ! $ fsplit ! $ drop ! $ fsplit ! $ move ! (2 ∷ []) $ fsplit ! $ fsplit ! $ drop ! $ fsplit ! $
           -- [seen; lent; true; the steps' name; shared; the locals, from 5; the tokens]
           move ! (51 ∷ []) $ split ! $ move ! (1 ∷ []) $ split ! $
           keep ! (3 ∷ 4 ∷ 0 ∷ 2 ∷ 7 ∷ 8 ∷ 9 ∷ 10 ∷ 11 ∷ 12 ∷ 13 ∷ 14 ∷ 15 ∷ 16 ∷ 17 ∷ 18 ∷ 19 ∷ 20 ∷ 21 ∷ 22 ∷ 23 ∷ 24 ∷ 25 ∷ 26 ∷ 27 ∷ 28 ∷ 29 ∷ 30 ∷ 31 ∷ 32 ∷ 33 ∷ 34 ∷ 35 ∷ 36 ∷ 37 ∷ 38 ∷ 39 ∷ 40 ∷ 41 ∷ 42 ∷ 43 ∷ 44 ∷ 45 ∷ 46 ∷ 47 ∷ 48 ∷ 49 ∷ 50 ∷ 51 ∷ 52 ∷ 53 ∷ 6 ∷ []) $
-          first ! $ blocks ! $ loops ! 𝓣 Nearer Nearer-wf At turns start
+          first ! $ blocks ! $ loops ! 𝓣 Nearer Nearer-wf At (turns gp) start
 
       -- what stands before the first step is put together
-      before-loop : Sq W (Locals-with (‵ (froom AnswerL.mir l₁₃ 0)) configured (‵ (froom word l₉ 0)) (‵ (froom NextL.mir l₈ 0)) (recorded (st₀ .history)) passed) (runs C Λ En mir′.t-7 (atRet En Post))
-      before-loop =
+      before-loop : IsAdmission admitted → Sq W (Locals-with (‵ (froom AnswerL.mir l₁₃ 0)) configured (‵ (froom word l₉ 0)) (‵ (froom NextL.mir l₈ 0)) (recorded (st₀ .history)) passed) (runs C Λ En mir′.t-7 (atRet En Post))
+      before-loop gp =
           assigns ! (agg ! (and-then ! (lit ! tt) (and-then ! (lit ! tt) (and-then ! (lit ! tt) (no-more !))))) (from ! (stop !)) (init ! 18 refl (answer-typed unread is-unread)) $
           assigns ! (agg ! (and-then ! (load ! (from ! (stop !)) (look ! 20 refl)) (and-then ! (load ! (from ! (stop !)) (look ! 18 refl)) (no-more !)))) (from ! (stop !)) (init ! 28 refl (next-typed (before-all st₀) (is-before st₀ gs))) $
           assigns ! (of-opd ! (lit ! tt)) (from ! (stop !)) (init ! 26 refl (tt, record { fits = lit< tt })) $
-          loop-runs
+          loop-runs gp
 
       -- the state is taken apart
-      taken-apart : Sq W (Locals-with (‵ (froom AnswerL.mir l₁₃ 0)) (‵ (froom ConfigurationL.mir l₁₂ 0)) (‵ (froom word l₉ 0)) (‵ (froom NextL.mir l₈ 0)) (‵ (froom historyTy l₇ 0)) passed) (runs C Λ En mir′.t-5 (atRet En Post))
-      taken-apart =
+      taken-apart : IsAdmission admitted → Sq W (Locals-with (‵ (froom AnswerL.mir l₁₃ 0)) (‵ (froom ConfigurationL.mir l₁₂ 0)) (‵ (froom word l₉ 0)) (‵ (froom NextL.mir l₈ 0)) (‵ (froom historyTy l₇ 0)) passed) (runs C Λ En mir′.t-5 (atRet En Post))
+      taken-apart gp =
           assigns ! (of-opd ! (load ! (from ! (fld ! {τ = historyTy} {d = 1424} refl (stop !))) (look-in ! 40 (sub ! 6 {τ = historyTy} {d = 1424} refl (whole !))))) (from ! (stop !)) (init ! 30 refl (history-typed (held (st₀ .history)) (held-history st₀ gs))) $
           rewrite ! 30 (λ (hs : List ℕ). ‵ (fat fullShare historyTy l₇ 0 (history-val hs))) (held-same (st₀ .history)) refl $
           use0 W (raw (Apart 𝓤 H A mem run .pre (to-apart 𝓤 H A mem run st₀))) (asks-apart 𝓤 H A mem run W st₀ gs) $
@@ -711,7 +715,25 @@ module _ {M : Type 1} (𝓤 : URA M) (H : Heap 𝓤) (A : Atoms 𝓤) (W : Given
           facts ! ConfigurationT.the-row (Is ConfigurationT.the-row) (shows 𝓤 H A ConfigurationT.the-row) c (u′ ∷ []) (λ is′.
           land ! (from ! (stop !)) (init ! 20 refl (SL.lawful ConfigurationT.the-type ConfigurationL.the-laws 𝓤 H A W .typed c _ is′ .0)) $
           rewrite ! 20 (λ (v : Val). ‵ (fat fullShare ConfigurationL.mir l₁₂ 0 v)) (ap only (SL.tells ConfigurationT.the-type ConfigurationL.the-laws c (u′ ∷ []) is′) ∙ ap configuration-val e′) refl $
-          before-loop))))
+          before-loop gp))))
+
+      -- whether the steps run is said
+      admits : Sq W (Locals-all (‵ (froom AnswerL.mir l₁₃ 0)) (‵ (froom ConfigurationL.mir l₁₂ 0)) (‵ (froom word l₁₁ 0)) (‵ (froom word l₁₀ 0)) (‵ (froom word l₉ 0)) (‵ (froom NextL.mir l₈ 0)) (‵ (froom historyTy l₇ 0)) (‵ (froom word l₆ 0)) (‵ (froom AdmissionL.mir l₅ 0)) passed) (runs C Λ En mir′.t-1 (atRet En Post))
+      admits =
+          assigns ! (of-opd ! (load ! (from ! (fld ! refl (stop !))) (look-in ! 38 (sub ! 1 refl (whole !))))) (from ! (stop !)) (init ! 24 refl (tt, record { fits = gn .0 })) $
+          assigns ! (of-opd ! (load ! (from ! (fld ! refl (stop !))) (look-in ! 36 (sub ! 1 refl (whole !))))) (from ! (stop !)) (init ! 22 refl (tt, record { fits = gm .0 })) $
+          use0 W (raw (Admit 𝓤 H A mem run .pre (to-admit 𝓤 H A mem run list st₀ n m))) (asks-admit 𝓤 H A mem run W list st₀ n m gl gs (gn .0) (gm .0)) $
+          calls-at ! fm (Admit 𝓤 H A mem run) known-admit (to-admit 𝓤 H A mem run list st₀ n m) (and-then ! (load ! (from ! (stop !)) (look ! 43 refl)) (and-then ! (load ! (from ! (stop !)) (look ! 41 refl)) (and-then ! (load ! (from ! (stop !)) (look ! 25 refl)) (and-then ! (load ! (from ! (stop !)) (look ! 23 refl)) (no-more !))))) (λ u.
+          use1 W (later (some (λ (r : Admission). (‵ ftrue ⊛ ‵ (AdmissionT.the-row .own r (u ∷ []))) ⊛ raw (ensured 𝓤 H A admit.ended (admit.clauses 𝓤 H A mem run) tt (list, (st₀, (n, (m, tt)))) tt r)))) (id⊢ 𝓤 _) $ await ! tt $ pick ! (λ r.
+          split ! $ move ! (1 ∷ []) $ use1 W (raw (fact 𝓤 (r ≡ admitted))) (admit-said 𝓤 H A mem run list st₀ n m r) $ heard ! (r ≡ admitted) (λ e. split ! $ drop ! $
+          facts ! AdmissionT.the-row (Is AdmissionT.the-row) (shows 𝓤 H A AdmissionT.the-row) r (u ∷ []) (λ is.
+          land ! (from ! (stop !)) (init ! 34 refl (SL.lawful AdmissionT.the-type AdmissionL.the-laws 𝓤 H A W .typed r _ is .0)) $
+          rewrite ! 34 (λ (v : Val). ‵ (fat fullShare AdmissionL.mir l₅ 0 v)) (ap only (SL.tells AdmissionT.the-type AdmissionL.the-laws r (u ∷ []) is) ∙ ap admission-val e) refl $
+          assigns ! (of-opd ! (load ! (from ! (fld ! refl (stop !))) (look-in ! 34 (sub ! 1 refl (whole !))))) (from ! (stop !)) (init ! 32 refl (tt, record { fits = SL.owed AdmissionT.the-type AdmissionL.the-laws admitted _ (is-admission r u e is) .1 .0 .1 })) $
+          taken-apart (is-admission r u e is)))))
+        where
+          is-admission : (r : Admission) (u : Val) → r ≡ admitted → Is AdmissionT.the-row r (u ∷ []) → IsAdmission admitted
+          is-admission r u e is = subst IsAdmission e (subst (Is AdmissionT.the-row r) (SL.tells AdmissionT.the-type AdmissionL.the-laws r (u ∷ []) is) is)
 
     -- the MIR up to there
     walk : ent 𝓤 (onEntry 𝓤 H A run′.signature (κ, (κ′, tt)) (q, (q′, tt)) (list, (st₀, (steps, (answers ys₀, tt)))) at)
@@ -721,20 +743,7 @@ module _ {M : Type 1} (𝓤 : URA M) (H : Heap 𝓤) (A : Atoms 𝓤) (W : Given
         enter ! C Λ code.function (list-val list ∷ state-val st₀ ∷ sliceVal (b, o) n ∷ sliceVal (b′, o′) m ∷ []) _ $
         alloc1 ! (λ l₀. alloc1 ! (λ l₁. alloc1 ! (λ l₂. alloc1 ! (λ l₃. alloc1 ! (λ l₄. alloc1 ! (λ l₅. alloc1 ! (λ l₆. alloc1 ! (λ l₇. alloc1 ! (λ l₈. alloc1 ! (λ l₉. alloc1 ! (λ l₁₀. alloc1 ! (λ l₁₁. alloc1 ! (λ l₁₂. alloc1 ! (λ l₁₃. alloc1 ! (λ l₁₄. alloc1 ! (λ l₁₅. alloc1 ! (λ l₁₆. alloc1 ! (λ l₁₇. alloc1 ! (λ l₁₈. alloc1 ! (λ l₁₉. alloc1 ! (λ l₂₀. alloc1 ! (λ l₂₁. alloc1 ! (λ l₂₂. alloc0 ! $ params1 ! $
         pass1 ! (init ! 42 refl (SL.lawful ListT.the-type ListL.the-laws 𝓤 H A W .typed list _ gl .0)) $ pass1 ! (init ! 40 refl (state-typed st₀ gs)) $ pass1 ! (init ! 38 refl (tt, (tt, (record { fits = gn .0 }, tt)))) $ pass1 ! (init ! 36 refl (tt, (tt, (record { fits = gm .0 }, tt)))) $ pass0 ! $
-        assigns ! (of-opd ! (load ! (from ! (fld ! refl (stop !))) (look-in ! 38 (sub ! 1 refl (whole !))))) (from ! (stop !)) (init ! 24 refl (tt, record { fits = gn .0 })) $
-        assigns ! (of-opd ! (load ! (from ! (fld ! refl (stop !))) (look-in ! 36 (sub ! 1 refl (whole !))))) (from ! (stop !)) (init ! 22 refl (tt, record { fits = gm .0 })) $
-        use0 W (raw (Admit 𝓤 H A mem run .pre (to-admit 𝓤 H A mem run list st₀ n m))) (asks-admit 𝓤 H A mem run W list st₀ n m gl gs (gn .0) (gm .0)) $
-        calls-at ! fm (Admit 𝓤 H A mem run) known-admit (to-admit 𝓤 H A mem run list st₀ n m) (and-then ! (load ! (from ! (stop !)) (look ! 43 refl)) (and-then ! (load ! (from ! (stop !)) (look ! 41 refl)) (and-then ! (load ! (from ! (stop !)) (look ! 25 refl)) (and-then ! (load ! (from ! (stop !)) (look ! 23 refl)) (no-more !))))) (λ u.
-        use1 W (later (some (λ (r : Admission). (‵ ftrue ⊛ ‵ (AdmissionT.the-row .own r (u ∷ []))) ⊛ raw (ensured 𝓤 H A admit.ended (admit.clauses 𝓤 H A mem run) tt (list, (st₀, (n, (m, tt)))) tt r)))) (id⊢ 𝓤 _) $ await ! tt $ pick ! (λ r.
-        split ! $ move ! (1 ∷ []) $ use1 W (raw (fact 𝓤 (r ≡ admitted))) (admit-said 𝓤 H A mem run list st₀ n m r) $ heard ! (r ≡ admitted) (λ e. split ! $ drop ! $
-        facts ! AdmissionT.the-row (Is AdmissionT.the-row) (shows 𝓤 H A AdmissionT.the-row) r (u ∷ []) (λ is.
-        land ! (from ! (stop !)) (init ! 34 refl (SL.lawful AdmissionT.the-type AdmissionL.the-laws 𝓤 H A W .typed r _ is .0)) $
-        rewrite ! 34 (λ (v : Val). ‵ (fat fullShare AdmissionL.mir l₅ 0 v)) (ap only (SL.tells AdmissionT.the-type AdmissionL.the-laws r (u ∷ []) is) ∙ ap admission-val e) refl $
-        assigns ! (of-opd ! (load ! (from ! (fld ! refl (stop !))) (look-in ! 34 (sub ! 1 refl (whole !))))) (from ! (stop !)) (init ! 32 refl (tt, record { fits = SL.owed AdmissionT.the-type AdmissionL.the-laws admitted _ (is-admission r u e is) .1 .0 .1 })) $
-        taken-apart (is-admission r u e is) l₀ l₁ l₂ l₃ l₄ l₅ l₆ l₇ l₈ l₉ l₁₀ l₁₁ l₁₂ l₁₃ l₁₄ l₁₅ l₁₆ l₁₇ l₁₈ l₁₉ l₂₀ l₂₁ l₂₂)))))))))))))))))))))))))))
-      where
-        is-admission : (r : Admission) (u : Val) → r ≡ admitted → Is AdmissionT.the-row r (u ∷ []) → IsAdmission admitted
-        is-admission r u e is = subst IsAdmission e (subst (Is AdmissionT.the-row r) (SL.tells AdmissionT.the-type AdmissionL.the-laws r (u ∷ []) is) is)
+        admits l₀ l₁ l₂ l₃ l₄ l₅ l₆ l₇ l₈ l₉ l₁₀ l₁₁ l₁₂ l₁₃ l₁₄ l₁₅ l₁₆ l₁₇ l₁₈ l₁₉ l₂₀ l₂₁ l₂₂)))))))))))))))))))))))
 
 module _ {M : Type 1} (𝓤 : URA M) (H : Heap 𝓤) (A : Atoms 𝓤) (W : Given 𝓤 H A) (mem : Memory → SProp 𝓤) (run : Routine → Fun 𝓤) (𝓣 : Tables 𝓤 H)
     (known-admit : Triple 𝓤 (𝓣 .C #admit) (Admit 𝓤 H A mem run)) (known-apart : Triple 𝓤 (𝓣 .C #apart) (Apart 𝓤 H A mem run)) (known-decided : Triple 𝓤 (𝓣 .C #decided) (Decided 𝓤 H A mem run)) (known-word : Triple 𝓤 (𝓣 .C #word) (Word 𝓤 H A mem run)) (known-together : Triple 𝓤 (𝓣 .C #together) (Together 𝓤 H A mem run)) where
