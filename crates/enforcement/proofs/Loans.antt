@@ -32,7 +32,7 @@ use Rattle.enforcement.specs.declared.states.State.{State}
 use Rattle.enforcement.proofs.Checks.{not-refused, later-passes}
 
 -- the loans of a state are no more than their number
-loans-counted : (s : State) → length (loansOf s) ≤ s .loans .count
+pub loans-counted : (s : State) → length (loansOf s) ≤ s .loans .count
 loans-counted s = rw (length-take (s .loans .count) (s .loans .entries)) (min-le-left (s .loans .count) (length (s .loans .entries)))
 
 -- ---- what 40 looked at

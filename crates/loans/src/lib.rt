@@ -131,6 +131,9 @@ impl Loans {
         ensures { λ r. ⌜ r ≡ stored (keptLoans (meant which) (running self)) ⌝ }
     {
         let start = Loans::none();
+        if self.count == 0 {
+            return start;
+        }
         start.gathered(self, which)
     }
 
@@ -162,12 +165,16 @@ impl Loans {
         held
     }
 
-    // A user holds a role: he is assigned it or has it on loan. Most roles are assigned, and then no loan is looked at.
+    // A user holds a role: he is assigned it or has it on loan. Most roles are assigned, and most states have no loan: then the roles of no other
+    // user are looked at.
     pub fn is_held(self, assigned: [u32; 64], user: usize, role: usize) -> bool
         ensures { λ r. ⌜ r ≡ hasRole (heldWith assigned (running self)) user role ⌝ }
     {
         if has_role(assigned, user, role) {
             return true;
+        }
+        if self.count == 0 {
+            return false;
         }
         let held = self.held(assigned);
         has_role(held, user, role)

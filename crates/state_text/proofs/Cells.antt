@@ -5,10 +5,9 @@ use mathlib.Core.Bool.{Bool, true}
 use mathlib.Core.Logic.{_≢_}
 use mathlib.Core.List.{List, [], _∷_, _++_, append-assoc}
 use Prim.Native.Nat.{ℕ, zero, suc, _+_, _*_, _/_, _%_, _≤_, _<_}
-use native.Mathlib.Nat.{min-le-left}
 use native.Mathlib.Omega.{arith}
 use lib.Dec.{leb}
-use lib.ListN.{set, length, length-take, length-append}
+use lib.ListN.{set, length, length-append}
 use lib.Seq.{getD-set-same, getD-set-other}
 use borrow.Author.Tests.{lt-ltb, leb-false, not-true}
 use Rattle.sets.specs.Sets.{with}
@@ -23,6 +22,7 @@ use Rattle.enforcement.specs.States.{assignedRole, carries, loansOf, isOpen, us
 use Rattle.enforcement.specs.Steps.{withSessions, put, session}
 use Rattle.enforcement.specs.Reached.{Typed}
 use Rattle.enforcement.specs.declared.states.State.{State}
+use Rattle.enforcement.proofs.Loans.{loans-counted}
 use Rattle.state_text.specs.Entries.{formOf, rank, withLine, hasRoom}
 use Rattle.state_text.specs.Saving.{over, only, placeLines, sessionLines, linesOf}
 use Rattle.state_text.specs.Causes.{Ranged}
@@ -187,9 +187,7 @@ loans-till s ordered k h ended = keys-till (loansOf s) ordered k h (λ j a b. sy
 pub room-left : (s : State) (u v r t : ℕ) → hasRoom s (LoanLine u v r t) ≡ true → length (loansOf s) < 32
 unfolding formOf
 room-left s u v r t room =
-    let counted : length (loansOf s) ≤ s .loans .count =
-    rw (length-take (s .loans .count) (s .loans .entries)) (min-le-left (s .loans .count) (length (s .loans .entries))) in
-    omega (arith, counted, leb-false 32 (s .loans .count) (not-true (leb 32 (s .loans .count)) room))
+    omega (arith, loans-counted s, leb-false 32 (s .loans .count) (not-true (leb 32 (s .loans .count)) room))
 
 pub loans-more : (s : State) (u v r t : ℕ) → hasRoom s (LoanLine u v r t) ≡ true → loansOf (withLine s (LoanLine u v r t)) ≡ loansOf s ++ (loanOf u v r t ∷ [])
 unfolding withLine

@@ -25,7 +25,7 @@ use Rattle.enforcement.proofs.Loans.{loans-ordered, holds-means}
 use Rattle.rules.specs.declared.sessions.Session.{Session}
 use Rattle.state_text.specs.Entries.{rank, inOrder, withLine, rests, isLoan, hasRoom}
 use Rattle.state_text.specs.Saving.{over, loanLine, linesOf}
-use Rattle.state_text.specs.Causes.{Ranged, Disordered, RoleHeld, Lacks, loanLines, Crowded, EachGood, stateAfter}
+use Rattle.state_text.specs.Causes.{Ranged, Disordered, RoleHeld, Lacks, loanLines, NoRoom, EachGood, stateAfter}
 use Rattle.state_text.specs.declared.entries.Entry.{Entry}
 use Rattle.state_text.specs.declared.entries.Entry.the-variants.{Now, Assigned, Granted, Loan as LoanLine, Open, Place, Active, Did}
 use Rattle.state_text.proofs.Rows.{by-test, over-zero, over-suc}
@@ -184,8 +184,8 @@ module _ (s : State) (kept : Kept s) where
   lacks-lines (Did o p u) h = (λ q. clash refl q, λ q. absurd q)
 
   -- 51: by the lines of the state
-  crowded-lines : (e : Entry) → (hasRoom s e ≡ false) ↔ Crowded (linesOf s) e
-  crowded-lines e =
+  no-room-lines : (e : Entry) → (hasRoom s e ≡ false) ↔ NoRoom (linesOf s) e
+  no-room-lines e =
       let counted : s .loans .count ≡ loanLines (linesOf s) = ap (λ (l : Loans). l .count) (kept .lending .filled) ∙ count-stored (loansOf s) ∙ sym (loan-number s) in (
         λ q. let b = both (isLoan e) (leb 32 (s .loans .count)) (not-false _ q) in (b .0, omega (arith, counted, leb-true 32 (s .loans .count) (b .1))),
         λ c. rw (c .0, le-leb 32 (s .loans .count) (omega (arith, counted, c .1))),
@@ -219,16 +219,16 @@ lacks-means (x ∷ es) good e h =
     subst (λ (l : List Entry). (rests (stateAfter fresh (x ∷ es)) e ≡ false) ↔ Lacks l e) (left .lines) (lacks-lines (stateAfter fresh (x ∷ es)) (left .kept) e h)
 
 -- a fresh state has room
-fresh-crowded : (e : Entry) → (hasRoom fresh e ≡ false) ↔ Crowded [] e
+fresh-no-room : (e : Entry) → (hasRoom fresh e ≡ false) ↔ NoRoom [] e
 unfolding fresh loanLines
-fresh-crowded e = (λ q. clash (both (isLoan e) false (not-false _ q) .1) refl, λ c. absurd (omega (arith, c .1)))
+fresh-no-room e = (λ q. clash (both (isLoan e) false (not-false _ q) .1) refl, λ c. absurd (omega (arith, c .1)))
 
 -- a line is one too many exactly where it is a loan and 32 good lines before it are
-pub crowded-means : (es : List Entry) → GoodLines 0 fresh es → (e : Entry) → (hasRoom (stateAfter fresh es) e ≡ false) ↔ Crowded es e
-crowded-means [] good e = fresh-crowded e
-crowded-means (x ∷ es) good e =
+pub no-room-means : (es : List Entry) → GoodLines 0 fresh es → (e : Entry) → (hasRoom (stateAfter fresh es) e ≡ false) ↔ NoRoom es e
+no-room-means [] good e = fresh-no-room e
+no-room-means (x ∷ es) good e =
     let left = good-left x es good in
-    subst (λ (l : List Entry). (hasRoom (stateAfter fresh (x ∷ es)) e ≡ false) ↔ Crowded l e) (left .lines) (crowded-lines (stateAfter fresh (x ∷ es)) (left .kept) e)
+    subst (λ (l : List Entry). (hasRoom (stateAfter fresh (x ∷ es)) e ≡ false) ↔ NoRoom l e) (left .lines) (no-room-lines (stateAfter fresh (x ∷ es)) (left .kept) e)
 
 -- ---- the order
 
@@ -303,7 +303,7 @@ good-means es = (to, λ each. from [] es tt each)
           ranged = t .1;
           ordered = λ d. clash (t .2) (order-means earlier (t .0) e .1 d);
           rested = λ l. clash (t .3) (lacks-means earlier (t .0) e (t .1) .1 l);
-          roomy = λ c. clash (t .4) (crowded-means earlier (t .0) e .1 c);
+          room = λ c. clash (t .4) (no-room-means earlier (t .0) e .1 c);
         }
 
     from : (done es : List Entry) → GoodLines 0 fresh done → EachGood (done ++ es) → GoodLines (nextRank 0 done) (stateAfter fresh done) es
@@ -312,6 +312,6 @@ good-means es = (to, λ each. from [] es tt each)
         let this = each done e es refl in
         let o : inOrder (nextRank 0 done) e ≡ true = by-test (inOrder (nextRank 0 done) e) (λ q. q) (λ q. absurd (this .ordered (order-means done good e .0 q))) in
         let r : rests (stateAfter fresh done) e ≡ true = by-test (rests (stateAfter fresh done) e) (λ q. q) (λ q. absurd (this .rested (lacks-means done good e (this .ranged) .0 q))) in
-        let room : hasRoom (stateAfter fresh done) e ≡ true = by-test (hasRoom (stateAfter fresh done) e) (λ q. q) (λ q. absurd (this .roomy (crowded-means done good e .0 q))) in
+        let room : hasRoom (stateAfter fresh done) e ≡ true = by-test (hasRoom (stateAfter fresh done) e) (λ q. q) (λ q. absurd (this .room (no-room-means done good e .0 q))) in
         let rest = from (done ++ (e ∷ [])) es (more done e 0 fresh good (this .ranged) o r room) (subst⁻¹ EachGood (append-assoc done (e ∷ []) es) each) in
         (this .ranged, o, r, room, rw (← next-more done e 0, ← after-more done e fresh) rest)

@@ -31,7 +31,7 @@ use Rattle.state_text.proofs.Values.{form-some, line-some}
 use Rattle.state_text.proofs.Rows.{unequal, by-test}
 use Rattle.state_text.proofs.LineTexts.{NoFormAt}
 use Rattle.state_text.proofs.GoodLines.{nextRank, GoodLines}
-use Rattle.state_text.proofs.Earlier.{lacks-means, crowded-means, order-means, good-means}
+use Rattle.state_text.proofs.Earlier.{lacks-means, no-room-means, order-means, good-means}
 use Rattle.state_text.proofs.LowestRule.{every-unbroken, lowest-from}
 use Rattle.state_text.proofs.Refusals.{read-whole, LineCause, noForm, outOfRange, outOfOrder, unrested, thirtyThird, AllGood, OneBad, Comes, from-comes, comes-from}
 
@@ -221,7 +221,7 @@ module _ (earlier : List Entry) (rest : List ℕ) (good : GoodLines 0 fresh earl
         ranged = h .ranged;
         ordered = λ d. clash (h .ordered) (order-means earlier good (h .entry) .1 d);
         rested = λ l. clash (h .rested) (lacks-means earlier good (h .entry) (h .ranged) .1 l);
-        crowded = crowded-means earlier good (h .entry) .0 (h .crowded);
+        noRoom = no-room-means earlier good (h .entry) .0 (h .noRoom);
       }
 
   of-51 : ThirtyThird earlier rest → Caused 51 earlier rest
@@ -234,7 +234,7 @@ module _ (earlier : List Entry) (rest : List ℕ) (good : GoodLines 0 fresh earl
       ranged = h .ranged;
       ordered = by-test (inOrder (nextRank 0 earlier) (h .entry)) (λ e. e) (λ e. absurd (h .ordered (order-means earlier good (h .entry) .0 e)));
       rested = by-test (rests (stateAfter fresh earlier) (h .entry)) (λ e. e) (λ e. absurd (h .rested (lacks-means earlier good (h .entry) (h .ranged) .0 e)));
-      crowded = crowded-means earlier good (h .entry) .1 (h .crowded);
+      noRoom = no-room-means earlier good (h .entry) .1 (h .noRoom);
     });
   }
 

@@ -66,7 +66,7 @@ pub record Roomless (next : ℕ) (s : State) (text : List ℕ) : Type 0 where
   pub ranged : Ranged entry
   pub ordered : inOrder next entry ≡ true
   pub rested : rests s entry ≡ true
-  pub crowded : hasRoom s entry ≡ false
+  pub noRoom : hasRoom s entry ≡ false
 
 -- the number of a refusal, and what is wrong with the line
 pub data LineCause (next : ℕ) (s : State) (text : List ℕ) (number : ℕ) : Type 0 where
@@ -135,7 +135,7 @@ verdict-comes n next s text (Good p) r some good f = go (inOrder next (p .entry)
     go true o true q true room = prepend n next s text (drop (p .length) text) (p .entry) r (good .ranged) o q room (good .isLine) (f good)
     go true o true q false room =
         bad-here n next s text 51 some
-        (thirtyThird refl (record { entry = p .entry; more = drop (p .length) text; isLine = good .isLine; ranged = good .ranged; ordered = o; rested = q; crowded = room }))
+        (thirtyThird refl (record { entry = p .entry; more = drop (p .length) text; isLine = good .isLine; ranged = good .ranged; ordered = o; rested = q; noRoom = room }))
     go true o false q z room =
         bad-here n next s text 16 some
         (unrested refl (record { entry = p .entry; more = drop (p .length) text; isLine = good .isLine; ranged = good .ranged; ordered = o; lacking = q }))
@@ -205,7 +205,7 @@ module _ (f n next : ℕ) (s : State) where
           ap (λ (a : LineRead). lineVerdict n next s a later) q ∙ rw (h .ordered, h .lacking, e)
       go number (thirtyThird e h) =
           let q = ap readLine (h .isLine) ∙ read-line (h .entry) (h .more) (h .ranged) in
-          ap (λ (a : LineRead). lineVerdict n next s a later) q ∙ rw (h .ordered, h .rested, h .crowded, e)
+          ap (λ (a : LineRead). lineVerdict n next s a later) q ∙ rw (h .ordered, h .rested, h .noRoom, e)
 
 pub comes-from : (r : Loading) (f n next : ℕ) (s : State) (text : List ℕ) → length text ≤ f → Comes n next s text r → readFrom f n next s text ≡ r
 comes-from (loaded given) f n next s text l c =

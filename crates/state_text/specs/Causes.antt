@@ -59,15 +59,15 @@ loanLines [] = 0
 loanLines (e ∷ es) = cond (isLoan e) (suc (loanLines es)) (loanLines es)
 
 -- "a thirty-third": a loan after 32 others
-abbrev pub Crowded : List Entry → Entry → Type 0
-Crowded es e = (isLoan e ≡ true) × (32 ≤ loanLines es)
+abbrev pub NoRoom : List Entry → Entry → Type 0
+NoRoom es e = (isLoan e ≡ true) × (32 ≤ loanLines es)
 
 -- a line after earlier ones is good
 pub record GoodAfter (earlier : List Entry) (entry : Entry) : Type 0 where
   pub ranged : Ranged entry
   pub ordered : Disordered earlier entry → ⊥
   pub rested : Lacks earlier entry → ⊥
-  pub roomy : Crowded earlier entry → ⊥
+  pub room : NoRoom earlier entry → ⊥
 
 -- and each line is, after those before it
 abbrev pub EachGood : List Entry → Type 0
@@ -120,7 +120,7 @@ pub record ThirtyThird (earlier : List Entry) (text : List ℕ) : Type 0 where
   pub ranged : Ranged entry
   pub ordered : Disordered earlier entry → ⊥
   pub rested : Lacks earlier entry → ⊥
-  pub crowded : Crowded earlier entry
+  pub noRoom : NoRoom earlier entry
 
 -- good lines come first, and at line n there is a text of which the statement holds
 pub record BadLine (Says : List Entry → List ℕ → Type 0) (text : List ℕ) (n : ℕ) : Type 0 where

@@ -50,7 +50,7 @@ BeforeLoans s e = formOf e ≡ 1 → loansOf s ≡ []
 
 -- what a line's rank, what it rests on and the room for it refuse, after its form and ranges; 0 where they refuse nothing
 abbrev pub lineNumber : ℕ → ℕ → Bool → Bool → ℕ
-lineNumber next rank rested roomy = cond (follows next rank) (cond rested (cond roomy 0 51) 16) 15
+lineNumber next rank rested room = cond (follows next rank) (cond rested (cond room 0 51) 16) 15
 
 abbrev pub numberIn : LineRead → ℕ
 numberIn (Good parsed) = 0

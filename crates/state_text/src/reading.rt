@@ -114,8 +114,8 @@ fn read_lines(text: &[u8]) -> LoadedState
 
 // What refuses a line in range: 15, then 16, then 51, or 0 where it is good; next is 0 at the first line, and then 1 more than the last
 // line's rank.
-fn line_number(next: u64, rank: u64, rested: bool, roomy: bool) -> u64
-    ensures { λ r. ⌜ r ≡ lineNumber next rank rested roomy ⌝ }
+fn line_number(next: u64, rank: u64, rested: bool, room: bool) -> u64
+    ensures { λ r. ⌜ r ≡ lineNumber next rank rested room ⌝ }
 {
     if !follows(next, rank) {
         return 15;
@@ -123,7 +123,7 @@ fn line_number(next: u64, rank: u64, rested: bool, roomy: bool) -> u64
     if !rested {
         return 16;
     }
-    if !roomy {
+    if !room {
         return 51;
     }
     0

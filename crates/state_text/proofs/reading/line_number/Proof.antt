@@ -16,10 +16,10 @@ returns-2 : tie.Need-returns-2
 returns-2 c = rw (sym (c .before .before .follows .ensures) ∙ not-false _ (c .before .if1 .left), not-true (c .before .before .before .args .rested) (c .if2 .taken))
 
 returns-3 : tie.Need-returns-3
-returns-3 c = rw (sym (c .before .before .before .follows .ensures) ∙ not-false _ (c .before .before .if1 .left), not-false (c .before .before .before .before .args .rested) (c .before .if2 .left), not-true (c .before .before .before .before .args .roomy) (c .if3 .taken))
+returns-3 c = rw (sym (c .before .before .before .follows .ensures) ∙ not-false _ (c .before .before .if1 .left), not-false (c .before .before .before .before .args .rested) (c .before .if2 .left), not-true (c .before .before .before .before .args .room) (c .if3 .taken))
 
 returns-4 : tie.Need-returns-4
-returns-4 c = rw (sym (c .before .before .before .follows .ensures) ∙ not-false _ (c .before .before .if1 .left), not-false (c .before .before .before .before .args .rested) (c .before .if2 .left), not-false (c .before .before .before .before .args .roomy) (c .if3 .left))
+returns-4 c = rw (sym (c .before .before .before .follows .ensures) ∙ not-false _ (c .before .before .if1 .left), not-false (c .before .before .before .before .args .rested) (c .before .if2 .left), not-false (c .before .before .before .before .args .room) (c .if3 .left))
 
 pub line-number-spec : {M : Type 1} → statement M
 line-number-spec = tie.close (tie.spec follows-requires returns returns-2 returns-3 returns-4)
