@@ -4,7 +4,7 @@ use mathlib.Core.Path.{_≡_, refl, sym, ap, subst, _∙_}
 use mathlib.Core.Bool.{true, _&&_, _||_}
 use mathlib.Core.Logic.{_↔_, _⊎_, inl, inr, ⊎-elim}
 use mathlib.Core.List.{List, [], _∷_, List·Memᴰ}
-use Prim.Native.Nat.{ℕ, _≤_, _<_}
+use Prim.Native.Nat.{ℕ, _≤_}
 use native.Mathlib.Omega.{arith}
 use lib.Dec.{eqb}
 use borrow.Author.Tests.{eq-eqb, eqb-true}
@@ -23,7 +23,7 @@ use Rattle.enforcement.specs.Steps.{target}
 use Rattle.enforcement.specs.Decisions.{granted}
 use Rattle.enforcement.specs.Gate.{stepOf, runOf, decisionOf}
 use Rattle.enforcement.specs.Reached.{Good}
-use Rattle.enforcement.specs.Claims.{Along, end, then, After}
+use Rattle.enforcement.specs.Claims.{Along, end, then, After, OnLoan, RoleClosed}
 use Rattle.enforcement.specs.declared.states.State.{State}
 use Rattle.enforcement.specs.declared.states.Next.{Next}
 use Rattle.enforcement.proofs.Ranges.{Ranged, action-ranged}
@@ -34,10 +34,6 @@ use Rattle.enforcement.proofs.Kept.{fresh-accepted, fresh-held}
 use Rattle.enforcement.proofs.Lending.{fresh-lending}
 use Rattle.enforcement.proofs.Agreement.{all-hold-fresh}
 use Rattle.enforcement.proofs.Reaching.{step-good}
-
--- a loan of the state that has not ended gives the user the role
-abbrev pub OnLoan : State → ℕ → ℕ → Type 0
-OnLoan s v r = (loan : Loan) × List·Memᴰ loan (loansOf s) × (loan .borrower ≡ v) × (loan .role ≡ r) × (s .time < loan .until)
 
 module _ (list : RuleList) where
   -- "A role is held when assigned or on loan"
@@ -60,12 +56,8 @@ module _ (list : RuleList) where
           some-of (λ loan. eqb (loan .borrower) v && eqb (loan .role) r) (on .0) (loansOf s) (on .1)
           (both-true (eqb (on .0 .borrower) v) (eqb (on .0 .role) r) (eq-eqb (on .0 .borrower) v (on .2)) (eq-eqb (on .0 .role) r (on .3)))
 
-  -- the role of a loan is active for its borrower nowhere, unless he is assigned it
-  abbrev Closed : Loan → State → Type 0
-  Closed loan s = (i : ℕ) → userOf s i ≡ loan .borrower → activeRole s i (loan .role) ≡ true → assignedRole s (loan .borrower) (loan .role) ≡ true
-
   -- after a step whose loans are some of those before, without this one
-  ended-closed : (s after : State) → Good list s → Good list after → (loan : Loan) → List·Memᴰ loan (loansOf s) → ((other : Loan) → List·Memᴰ other (loansOf after) → List·Memᴰ other (loansOf s) × (other ≡ loan → ⊥)) → Closed loan after
+  ended-closed : (s after : State) → Good list s → Good list after → (loan : Loan) → List·Memᴰ loan (loansOf s) → ((other : Loan) → List·Memᴰ other (loansOf after) → List·Memᴰ other (loansOf s) × (other ≡ loan → ⊥)) → RoleClosed loan after
   ended-closed s after good next loan member fewer i user active =
       ⊎-elim (λ a. a) (λ on. absurd (fewer (on .0) (on .1) .1 (good .lending .single (on .0) loan (fewer (on .0) (on .1) .0) member (on .2) (on .3))))
       (holds after next (loan .borrower) (loan .role) .0 (subst (λ (u : ℕ). holdsRole after u (loan .role) ≡ true) user (next .held i (loan .role) active)))
@@ -75,7 +67,7 @@ module _ (list : RuleList) where
     target-loans : (action : Action) → actionOf step ≡ action → loansOf (stepOf list s step .state) ≡ loansOf (target s action)
     target-loans action e = ap loansOf (granted-step list s step grants .changed) ∙ ap (λ (a : Action). loansOf (target s a)) e
 
-    clock-closes : (now : ℕ) → actionOf step ≡ Clock now → (loan : Loan) → List·Memᴰ loan (loansOf s) → loan .until ≤ now → Closed loan (stepOf list s step .state)
+    clock-closes : (now : ℕ) → actionOf step ≡ Clock now → (loan : Loan) → List·Memᴰ loan (loansOf s) → loan .until ≤ now → RoleClosed loan (stepOf list s step .state)
     clock-closes now e loan member reached =
         ended-closed s (stepOf list s step .state) good (step-good list listed s good step) loan member
         (λ other m.
@@ -83,7 +75,7 @@ module _ (list : RuleList) where
         let t = clock-target s now (good .accepted) low .1 other .0 (rw (target-loans (Clock now) e) at m) in
         (t .0, λ same. let later = t .1 in let until = ap (λ (w : Loan). w .until) same in omega (arith, later, until, reached)))
 
-    recall-closes : (loan : Loan) → actionOf step ≡ Recall (loan .lender) (loan .borrower) (loan .role) → List·Memᴰ loan (loansOf s) → Closed loan (stepOf list s step .state)
+    recall-closes : (loan : Loan) → actionOf step ≡ Recall (loan .lender) (loan .borrower) (loan .role) → List·Memᴰ loan (loansOf s) → RoleClosed loan (stepOf list s step .state)
     recall-closes loan e member =
         ended-closed s (stepOf list s step .state) good (step-good list listed s good step) loan member
         (λ other m.
@@ -118,11 +110,11 @@ module _ (list : RuleList) (listed : listAccepted list ≡ true) (steps : List S
   -- "A loan ends when the clock reaches t": then its role is active for the borrower nowhere, unless he is assigned it
   pub stand-in-clock :
       Along (λ s step given. (now : ℕ) → actionOf step ≡ Clock now → decisionOf (given .answer) ≡ granted → (loan : Loan) → List·Memᴰ loan (loansOf s) → loan .until ≤ now →
-      (i : ℕ) → userOf (given .state) i ≡ loan .borrower → activeRole (given .state) i (loan .role) ≡ true → assignedRole (given .state) (loan .borrower) (loan .role) ≡ true) fresh steps (runOf list fresh steps)
+      RoleClosed loan (given .state)) fresh steps (runOf list fresh steps)
   stand-in-clock = along-good list listed _ (λ s good step now e grants. clock-closes list listed s good step grants now e) steps fresh fresh-good
 
   -- "`recall u v r` ends one early": and so here
   pub stand-in-recall :
       Along (λ s step given. (loan : Loan) → actionOf step ≡ Recall (loan .lender) (loan .borrower) (loan .role) → decisionOf (given .answer) ≡ granted → List·Memᴰ loan (loansOf s) →
-      (i : ℕ) → userOf (given .state) i ≡ loan .borrower → activeRole (given .state) i (loan .role) ≡ true → assignedRole (given .state) (loan .borrower) (loan .role) ≡ true) fresh steps (runOf list fresh steps)
+      RoleClosed loan (given .state)) fresh steps (runOf list fresh steps)
   stand-in-recall = along-good list listed _ (λ s good step loan e grants. recall-closes list listed s good step grants loan e) steps fresh fresh-good

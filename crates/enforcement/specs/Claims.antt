@@ -1,9 +1,9 @@
 -- The words in which the claims of proofs/ are put: a rule over a state in plain quantifiers, what a step leaves as it was, a list of steps
--- one by one, the largest part that an event leaves, and the rule that a 30 names.
+-- one by one, the largest part that an event leaves, a role on loan, and the rule that a 30 names.
 -- Assumes nothing.
 use mathlib.Core.Path.{_≡_}
 use mathlib.Core.Bool.{true, false, _||_}
-use mathlib.Core.List.{List, [], _∷_}
+use mathlib.Core.List.{List, [], _∷_, List·Memᴰ}
 use Prim.Native.Nat.{ℕ, suc, _≤_, _<_}
 use lib.ListN.{length, getD}
 use Rattle.sets.specs.Sets.{count}
@@ -17,6 +17,7 @@ use Rattle.steps.specs.Steps.{actionOf, isEvent}
 use Rattle.steps.specs.declared.actions.Action.{Action}
 use Rattle.steps.specs.declared.actions.Action.the-variants.{Malformed, Assign, Withdraw, Grant, Take, Open, Activate, Deactivate, Access, Finish, Close, Move, Lost, Clock, Lend, Recall}
 use Rattle.steps.specs.declared.steps.Step.{Step}
+use Rattle.loans.specs.declared.Loan.{Loan}
 use Rattle.enforcement.specs.States.{fresh, assignedRole, loansOf, holdsRole, carries, isOpen, userOf, positionOf, activeRole, did}
 use Rattle.enforcement.specs.Steps.{passes, check, target, withActive}
 use Rattle.enforcement.specs.Decisions.{granted, refused}
@@ -137,6 +138,16 @@ pub record LargestLeft (rules : List Rule) (s : State) (action : Action) (after 
 abbrev pub LeavesLargest : List Rule → State → Step → Next → Type 0
 LeavesLargest rules s step given =
     isEvent (actionOf step) ≡ true → decisionOf (given .answer) ≡ granted → LargestLeft rules s (actionOf step) (given .state)
+
+-- ---- 2026-01: "A role is held when assigned or on loan"; "A loan ends when the clock reaches t"
+
+-- a loan of the state that has not ended gives the user the role
+abbrev pub OnLoan : State → ℕ → ℕ → Type 0
+OnLoan s v r = (loan : Loan) × List·Memᴰ loan (loansOf s) × (loan .borrower ≡ v) × (loan .role ≡ r) × (s .time < loan .until)
+
+-- the role of a loan is active for its borrower nowhere, unless he is assigned it
+abbrev pub RoleClosed : Loan → State → Type 0
+RoleClosed loan s = (i : ℕ) → userOf s i ≡ loan .borrower → activeRole s i (loan .role) ≡ true → assignedRole s (loan .borrower) (loan .role) ≡ true
 
 -- ---- "it tests every rule over the whole target; if any is broken it answers 30 with the lowest"
 

@@ -165,8 +165,7 @@ impl Loans {
         held
     }
 
-    // A user holds a role: he is assigned it or has it on loan. Most roles are assigned, and most states have no loan: then the roles of no other
-    // user are looked at.
+    // A user holds a role: he is assigned it or has it on loan. Where he is assigned it or there is no loan, no array of held roles is made.
     pub fn is_held(self, assigned: [u32; 64], user: usize, role: usize) -> bool
         ensures { λ r. ⌜ r ≡ hasRole (heldWith assigned (running self)) user role ⌝ }
     {
