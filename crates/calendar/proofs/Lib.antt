@@ -7,3 +7,4 @@ pub mod Meaning
 pub mod Inverse
 pub mod DateMeaning
 pub mod TermMeaning
+pub mod DayNumbers

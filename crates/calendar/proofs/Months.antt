@@ -1,18 +1,29 @@
 -- The months of a year: they follow on each other, each of at most 31 days, and the last ends with the year.
 -- Assumes nothing.
 use mathlib.Core.Path.{_≡_, refl, _∙_, ap}
-use mathlib.Core.Bool.{Bool, true, false, _&&_}
-use Prim.Native.Nat.{ℕ, zero, suc, _+_, _-_, _<_, _≤_}
+use mathlib.Core.Bool.{Bool, true, false, cond, _&&_}
+use Prim.Native.Nat.{ℕ, zero, suc, _+_, _-_, _%_, _<_, _≤_}
 use native.Mathlib.Omega.{arith}
-use borrow.Author.Tests.{leb-true, lt-ltb}
-use lib.Dec.{leb}
-use Rattle.calendar.specs.Days.{yearLength, commonStart, monthStart, monthEnd, monthOf, lastStarted}
+use borrow.Author.Tests.{leb-true, ltb-true, lt-ltb}
+use lib.Dec.{leb, ltb}
+use Rattle.calendar.specs.Days.{yearLength, monthFromMarch, daysFromMarch, fromMarchBefore, commonStart, monthStart, monthEnd, monthOf, lastStarted}
 use Rattle.sets.proofs.Booleans.{both}
 use Rattle.sets.specs.Sets.{all}
 use Rattle.sets.proofs.Bounded.{of-all}
 use Rattle.calendar.proofs.Last.{Contains, Adjoin, later, found, only, last-skip, last-stop}
 
--- What the table of starts says of each month.
+-- A year starts with January.
+pub january-first : (month : ℕ) → 1 ≤ month → fromMarchBefore 1 ≤ fromMarchBefore month
+january-first month low = by-year (ltb month 3) refl
+  where
+    by-year : (before : Bool) → ltb month 3 ≡ before → 306 ≤ cond before 0 365 + daysFromMarch (monthFromMarch month)
+    by-year true tested =
+        let early = ltb-true month 3 tested in
+        let m : (month + 9) % 12 ≡ month + 9 = omega arith in
+        rw m (omega arith)
+    by-year false tested = omega arith
+
+-- What the starts of the months say of each month.
 pub record MonthSpan (leap : Bool) (month : ℕ) : Type 0 where
   pub grows : monthStart leap month ≤ monthEnd leap month
   pub short : monthEnd leap month ≤ monthStart leap month + 31

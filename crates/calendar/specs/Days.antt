@@ -3,9 +3,7 @@
 -- Assumes nothing.
 use Prim.Native.Nat.{ℕ, zero, suc, _+_, _-_, _*_, _/_, _%_}
 use mathlib.Core.Bool.{Bool, cond, not, _&&_, _||_}
-use mathlib.Core.List.{List, [], _∷_}
 use lib.Dec.{leb, ltb, eqb}
-use lib.ListN.{getD}
 use Rattle.calendar.specs.declared.days.Date.{Date}
 use Rattle.calendar.specs.declared.days.DayFound.{DayFound}
 use Rattle.calendar.specs.declared.days.DayFound.the-variants.{Day, NoDate}
@@ -36,13 +34,21 @@ unfoldable pub yearStart : ℕ → ℕ
 yearStart zero = 0
 yearStart (suc since) = yearStart since + yearLength (leapYear (2000 + since))
 
--- "Days before each month in a common year"
-abbrev pub monthStarts : List ℕ
-monthStarts = 0 ∷ 31 ∷ 59 ∷ 90 ∷ 120 ∷ 151 ∷ 181 ∷ 212 ∷ 243 ∷ 273 ∷ 304 ∷ 334 ∷ []
+-- 2026-02: "months counted from March .. m from 0 to 11"
+abbrev pub monthFromMarch : ℕ → ℕ
+monthFromMarch month = (month + 9) % 12
 
--- the same, of month 1 to 12
+-- 2026-02: "(153 × m + 2) / 5 rounded down": the days from the first of March to the first of month m
+abbrev pub daysFromMarch : ℕ → ℕ
+daysFromMarch m = (153 * m + 2) / 5
+
+-- 2026-02: "January and February count with the year before", from its March on; the other months from their own, 365 days later
+abbrev pub fromMarchBefore : ℕ → ℕ
+fromMarchBefore month = cond (ltb month 3) 0 365 + daysFromMarch (monthFromMarch month)
+
+-- "Days before each month in a common year", of month 1 to 12: those from January to it
 unfoldable pub commonStart : ℕ → ℕ
-commonStart month = getD monthStarts (month - 1) 0
+commonStart month = fromMarchBefore month - fromMarchBefore 1
 
 -- the days of a year before month 1 to 12: a leap year's February has one more
 unfoldable pub monthStart : Bool → ℕ → ℕ

@@ -2,7 +2,7 @@
 ghost use mathlib.Core.Path.{_≡_};
 ghost use mathlib.Core.Bool.{true};
 ghost use Prim.Native.Nat.{_+_, _≤_, _<_};
-ghost use Rattle.calendar.specs.Days.{dayOf, minuteOf, weekdayOf, leapYear, yearStart, commonStart, monthStart, monthEnd, monthOf, yearOf, dateOf, dateFound, isDayOfMonth, isDate, dayNumber, dayOfDate};
+ghost use Rattle.calendar.specs.Days.{dayOf, minuteOf, weekdayOf, leapYear, yearStart, fromMarchBefore, commonStart, monthStart, monthEnd, monthOf, yearOf, dateOf, dateFound, isDayOfMonth, isDate, dayNumber, dayOfDate};
 
 pub struct Date {
     pub year: u64,
@@ -30,9 +30,6 @@ impl Date {
     // The days of these years.
     pub const DAYS: u64 = 36525;
 }
-
-// Days before each month in a common year.
-const MONTH_STARTS: [u64; 12] = [0, 31, 59, 90, 120, 151, 181, 212, 243, 273, 304, 334];
 
 // The day of a time.
 pub fn day_of(t: u64) -> u64
@@ -143,13 +140,25 @@ fn year_of(day: u64) -> u64
     4 * (day / 1461) + (rest - 1) / 365
 }
 
+// The days from the March of the year before to a month of a common year. January and February count with the year before.
+fn from_march_before(month: u64) -> u64
+    requires { ⌜ month ≤ 12 ⌝ }
+    ensures { λ r. ⌜ r ≡ fromMarchBefore month ⌝ }
+{
+    let m = (month + 9) % 12;
+    let days = (153 * m + 2) / 5;
+    if month < 3 {
+        return days;
+    }
+    365 + days
+}
+
 // The days before a month of a common year.
 fn common_start(month: u64) -> u64
     requires { ⌜ (1 ≤ month) × (month ≤ 12) ⌝ }
     ensures { λ r. ⌜ r ≡ commonStart month ⌝ }
 {
-    let i = (month - 1) as usize;
-    MONTH_STARTS[i]
+    from_march_before(month) - from_march_before(1)
 }
 
 // The days of a year before a month.

@@ -38,6 +38,28 @@ fn days_before_each_month_of_a_common_year() {
     }
 }
 
+/// Request 2026-02: "months counted from March, (153 × m + 2) / 5 rounded down, m from
+/// 0 to 11. January and February count with the year before." The plain gate itself
+/// counts by the lengths of the months.
+#[test]
+fn days_before_a_month_by_the_formula() {
+    for day in 0..=TIMES.end() / SECONDS_OF_DAY {
+        let Date { year, month, day_of_month } = Date::of_day(day);
+        let (counted_with, m) = if month < 3 { (year - 1, month + 9) } else { (year, month - 3) };
+        let before_month = (153 * m + 2) / 5;
+        assert_eq!(first_of_march(counted_with) + before_month + day_of_month - 1, day);
+    }
+}
+
+/// From March to December 1999 had 306 days.
+fn first_of_march(year: i64) -> i64 {
+    if year == 1999 {
+        -306
+    } else {
+        date(year, 3, 1).day()
+    }
+}
+
 #[test]
 fn each_day_has_one_date() {
     for day in 0..=TIMES.end() / SECONDS_OF_DAY {
