@@ -8,3 +8,4 @@ pub mod Inverse
 pub mod DateMeaning
 pub mod TermMeaning
 pub mod DayNumbers
+pub mod March

@@ -12,17 +12,6 @@ use Rattle.sets.specs.Sets.{all}
 use Rattle.sets.proofs.Bounded.{of-all}
 use Rattle.calendar.proofs.Last.{Contains, Adjoin, later, found, only, last-skip, last-stop}
 
--- A year starts with January.
-pub january-first : (month : ℕ) → 1 ≤ month → fromMarchBefore 1 ≤ fromMarchBefore month
-january-first month low = by-year (ltb month 3) refl
-  where
-    by-year : (before : Bool) → ltb month 3 ≡ before → 306 ≤ cond before 0 365 + daysFromMarch (monthFromMarch month)
-    by-year true tested =
-        let early = ltb-true month 3 tested in
-        let m : (month + 9) % 12 ≡ month + 9 = omega arith in
-        rw m (omega arith)
-    by-year false tested = omega arith
-
 -- What the starts of the months say of each month.
 pub record MonthSpan (leap : Bool) (month : ℕ) : Type 0 where
   pub grows : monthStart leap month ≤ monthEnd leap month
@@ -52,6 +41,17 @@ month-span leap month high =
 pub start-small : (leap : Bool) (month : ℕ) → month ≤ 12 → monthStart leap month ≤ 366
 start-small true month high = let span = month-span true month high in omega arith
 start-small false month high = let span = month-span false month high in omega arith
+
+-- No month of a year is before its January.
+pub january-first : (month : ℕ) → 1 ≤ month → fromMarchBefore 1 ≤ fromMarchBefore month
+january-first month low = by-year (ltb month 3) refl
+  where
+    by-year : (before : Bool) → ltb month 3 ≡ before → 306 ≤ cond before 0 365 + daysFromMarch (monthFromMarch month)
+    by-year true tested =
+        let early = ltb-true month 3 tested in
+        let m : (month + 9) % 12 ≡ month + 9 = omega arith in
+        rw m (omega arith)
+    by-year false tested = omega arith
 
 -- The definition counts months from 0.
 abbrev pub startsFromZero : Bool → ℕ → ℕ

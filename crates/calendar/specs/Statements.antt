@@ -1,12 +1,12 @@
 -- Document 01, 'Calendar', as statements over numbers. proofs/DateMeaning.antt and proofs/TermMeaning.antt show that the dates of Days.antt and
 -- the tests of Terms.antt say the same.
 -- Assumes nothing.
-use Prim.Native.Nat.{ℕ, _+_, _-_, _/_, _%_, _≤_, _<_}
+use Prim.Native.Nat.{ℕ, _+_, _-_, _*_, _/_, _%_, _≤_, _<_}
 use mathlib.Core.Path.{_≡_}
 use mathlib.Core.Bool.{Bool, cond, _&&_}
 use mathlib.Core.List.{List, [], _∷_}
 use mathlib.Core.Logic.{_⊎_}
-use lib.Dec.{eqb}
+use lib.Dec.{ltb, eqb}
 use lib.ListN.{getD}
 use Rattle.calendar.specs.Days.{leapYear, yearStart, monthStart}
 use Rattle.calendar.specs.declared.days.Date.{Date}
@@ -39,6 +39,14 @@ SuchDate yyyymmdd = GregorianDate (yyyymmdd / 10000) (yyyymmdd / 100 % 100) (yyy
 -- the days before a date: those of the years before it, of the months before it, and of its month
 abbrev pub daysBefore : Date → ℕ
 daysBefore date = yearStart (date .year - 2000) + monthStart (leapYear (date .year)) (date .month) + (date .day - 1)
+
+-- 2026-02: "January and February count with the year before"
+abbrev pub countedYear : ℕ → ℕ → ℕ
+countedYear year month = cond (ltb month 3) (year - 1) year
+
+-- the first of March of the year that a date counts with
+abbrev pub countedFrom : ℕ → ℕ
+countedFrom yyyymmdd = countedYear (yyyymmdd / 10000) (yyyymmdd / 100 % 100) * 10000 + 3 * 100 + 1
 
 -- the date after a date: the next day of the month; after its last, the first of the next month; after the year's last, the next year's first
 abbrev pub Follows : Date → Date → Type 0
