@@ -50,7 +50,15 @@ add-t9 c = search needs
 
 returns : tie.Need-returns
 unfolding dateOf dateIn
-returns c = cc
+returns c =
+    let start = c .before .before in
+    simp (
+      c .month-start .ensures,
+      c .before .month-of .ensures,
+      start .year-start .ensures,
+      start .before .leap-year .ensures,
+      start .before .before .year-of .ensures,
+    )
 
 pub date-within-spec : {M : Type 1} → statement M
 date-within-spec =

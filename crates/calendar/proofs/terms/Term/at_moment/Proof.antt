@@ -120,23 +120,43 @@ multiple-from-requires c κs =
 
 returns : tie.Need-returns
 unfolding atMoment
-returns c = simp (c .before .before .before .self .given .1) (cc)
+returns c =
+    let day = c .before .before .before .before .before in
+    simp (c .before .before .before .self .given .1, c .day-number2 .ensures, c .before .day-number .ensures, day .day-of .ensures)
 
 returns-2 : tie.Need-returns-2
 unfolding atMoment
-returns-2 c = simp (c .before .before .before .before .before .before .before .self2 .given .1) (cc)
+returns-2 c =
+    let minutes = c .before .before .before in
+    let weekday = minutes .before .before in
+    simp (
+      weekday .before .before .self2 .given .1,
+      c .minute-from-to .ensures,
+      c .before .minute-of .ensures,
+      c .before .before .minute-at2 .ensures,
+      minutes .minute-at .ensures,
+      minutes .before .from-to .ensures,
+      weekday .counted-weekday .ensures,
+    )
 
 returns-3 : tie.Need-returns-3
 unfolding atMoment
-returns-3 c = simp (c .before .before .before .self3 .given .1) (cc)
+returns-3 c =
+    let day = c .before .before .before .before .before in
+    simp (c .before .before .before .self3 .given .1, c .from-to2 .ensures, c .before .date-within .ensures, day .day-of .ensures)
 
 returns-4 : tie.Need-returns-4
 unfolding atMoment
-returns-4 c = simp (c .before .before .before .before .self4 .given .1) (cc)
+returns-4 c =
+    let within = c .before .before in
+    let day = within .before .before .before .before in
+    simp (within .before .before .self4 .given .1, c .ordinal-of .ensures, c .before .weekday-of .ensures, within .date-within2 .ensures, day .day-of .ensures)
 
 returns-5 : tie.Need-returns-5
 unfolding atMoment
-returns-5 c = simp (c .before .before .before .self5 .given .1) (cc)
+returns-5 c =
+    let day = c .before .before .before .before .before in
+    simp (c .before .before .before .self5 .given .1, c .multiple-from .ensures, c .before .day-number3 .ensures, day .day-of .ensures)
 
 pub at-moment-spec : {M : Type 1} → statement M
 at-moment-spec =
