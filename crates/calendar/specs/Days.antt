@@ -1,5 +1,6 @@
--- Document 01, 'Calendar': days, times of day and dates. That dates and days are inverse to each other is proved in proofs/Inverse.antt,
--- and that each next day has the next date in proofs/DateMeaning.antt.
+-- Document 01, 'Calendar', with request 2026-02: days, times of day and dates. That dates and days are inverse to each other is proved in
+-- proofs/Inverse.antt, that each next day has the next date in proofs/DateMeaning.antt, and that every date has the day number it had before
+-- the request in proofs/DayNumbers.antt.
 -- Assumes nothing.
 use Prim.Native.Nat.{ℕ, zero, suc, _+_, _-_, _*_, _/_, _%_}
 use mathlib.Core.Bool.{Bool, cond, not, _&&_, _||_}
@@ -42,11 +43,12 @@ monthFromMarch month = (month + 9) % 12
 abbrev pub daysFromMarch : ℕ → ℕ
 daysFromMarch m = (153 * m + 2) / 5
 
--- 2026-02: "January and February count with the year before", from its March on; the other months from their own, 365 days later
+-- 2026-02: "January and February count with the year before": the days from the March of the year before to a month; a common year's own
+-- March comes 365 days later
 abbrev pub fromMarchBefore : ℕ → ℕ
 fromMarchBefore month = cond (ltb month 3) 0 365 + daysFromMarch (monthFromMarch month)
 
--- "Days before each month in a common year", of month 1 to 12: those from January to it
+-- the days of a common year before month 1 to 12: those from its January
 unfoldable pub commonStart : ℕ → ℕ
 commonStart month = fromMarchBefore month - fromMarchBefore 1
 

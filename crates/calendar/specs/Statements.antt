@@ -1,5 +1,5 @@
--- Document 01, 'Calendar', as statements over numbers. proofs/DateMeaning.antt and proofs/TermMeaning.antt show that the dates of Days.antt and
--- the tests of Terms.antt say the same.
+-- Document 01, 'Calendar', as statements over numbers. proofs/DateMeaning.antt, proofs/March.antt and proofs/TermMeaning.antt show that the
+-- dates of Days.antt and the tests of Terms.antt say the same.
 -- Assumes nothing.
 use Prim.Native.Nat.{ℕ, _+_, _-_, _*_, _/_, _%_, _≤_, _<_}
 use mathlib.Core.Path.{_≡_}
