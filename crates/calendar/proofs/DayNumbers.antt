@@ -11,10 +11,10 @@ use lib.Dec.{ltb, eqb}
 use lib.ListN.{getD}
 use Rattle.sets.specs.Sets.{all}
 use Rattle.sets.proofs.Bounded.{of-all}
-use Rattle.calendar.specs.Days.{leapYear, yearStart, commonStart, monthStart, isDate, dayNumber, dayOfDate, dateOf, dateNumber}
+use Rattle.calendar.specs.Days.{leapYear, yearStart, commonStart, monthStart, dayNumber, dayOfDate, dateOf, dateNumber}
 use Rattle.calendar.specs.Statements.{SuchDate}
 use Rattle.calendar.specs.declared.days.DayFound.the-variants.{Day}
-use Rattle.calendar.proofs.Inverse.{date-found, number-of-day}
+use Rattle.calendar.proofs.Inverse.{number-of-day, date-day-date}
 use Rattle.calendar.proofs.DateMeaning.{date-means}
 
 -- "Days before each month in a common year"
@@ -52,9 +52,10 @@ day-number-stays yyyymmdd day = (had, has)
   where
     had : dayOfDate yyyymmdd ≡ Day day → SuchDate yyyymmdd × (day ≡ listedDayNumber yyyymmdd)
     had same =
-        let found = date-found yyyymmdd day (isDate yyyymmdd) refl same in
-        let date = date-means yyyymmdd .0 (found .0) in
-        (date, sym (found .1) ∙ number-stays yyyymmdd date)
+        let back = date-day-date yyyymmdd day same in
+        let known = rw (back .1) at (number-of-day day (back .0)) in
+        let date = date-means yyyymmdd .0 (known .0) in
+        (date, sym (known .1) ∙ number-stays yyyymmdd date)
 
     has : SuchDate yyyymmdd × (day ≡ listedDayNumber yyyymmdd) → dayOfDate yyyymmdd ≡ Day day
     has of = simp (date-means yyyymmdd .1 (of .0), number-stays yyyymmdd (of .0), of .1)

@@ -93,8 +93,7 @@ module _ (a : ℕ) (date : isDate a ≡ true) where
       let hundreds = hundreds-again a in
       simp (year, rest-of-number, whole, month) (omega arith)
 
--- A number that has a day is a date, and the day is its day number.
-pub date-found : (a day : ℕ) (test : Bool) → isDate a ≡ test → dayOfDate a ≡ Day day → (isDate a ≡ true) × (dayNumber a ≡ day)
+date-found : (a day : ℕ) (test : Bool) → isDate a ≡ test → dayOfDate a ≡ Day day → (isDate a ≡ true) × (dayNumber a ≡ day)
 unfolding dayOfDate
 date-found a day true tested same = (tested, cc)
 date-found a day false tested same = (cc, cc)

@@ -7,7 +7,7 @@ use native.Mathlib.Omega.{arith}
 use borrow.Author.Tests.{ltb-true, ltb-false, lt-ltb, le-ltb}
 use lib.Dec.{ltb}
 use Rattle.calendar.specs.Days.{leapYear, yearLength, yearStart, monthFromMarch, daysFromMarch, fromMarchBefore, commonStart, monthStart, dayNumber}
-use Rattle.calendar.specs.Statements.{SuchDate, countedYear, countedFrom}
+use Rattle.calendar.specs.Statements.{SuchDate, countedFrom}
 use Rattle.calendar.proofs.Years.{year-next}
 use Rattle.calendar.proofs.Months.{january-first}
 use Rattle.calendar.proofs.Inverse.{digits}
