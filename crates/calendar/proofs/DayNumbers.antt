@@ -1,4 +1,4 @@
--- 2026-02: "Every date has the day number it had." The twelve numbers of document 01 stand here alone.
+-- 2026-02: "Every date has the day number it had." Of all crates, the twelve numbers of document 01 stand in this file alone.
 -- Assumes nothing.
 use mathlib.Core.Path.{_≡_, refl, sym, _∙_}
 use mathlib.Core.Bool.{Bool, true, cond, _&&_}
