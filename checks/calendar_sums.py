@@ -13,10 +13,12 @@ def around(first, last, x):
 
 
 def week(first, last, start, end):
+    """"A shift belongs to the day it begins": the moment less the start's time of day is on that day."""
     def holds(moment):
         minute = moment.strftime("%H%M")
         inside = start <= minute < end if start < end else minute >= start or minute < end
-        return around(first, last, moment.isoweekday()) and inside
+        begun = moment - timedelta(hours=int(start[:2]), minutes=int(start[2:]))
+        return around(first, last, begun.isoweekday()) and inside
     return holds
 
 
@@ -44,6 +46,7 @@ ROWS = [
     ("week 1 5 0700 1900", week(1, 5, "0700", "1900")),
     ("week 6 2 0000 2400", week(6, 2, "0000", "2400")),
     ("week 5 5 2200 0600", week(5, 5, "2200", "0600")),
+    ("week 6 1 2200 0600", week(6, 1, "2200", "0600")),
     ("months 4 9", lambda m: around(4, 9, m.month)),
     ("months 11 2", lambda m: around(11, 2, m.month)),
     ("nth 2 1", nth(2, 1)),

@@ -73,7 +73,7 @@
 extern "C" {
 #endif
 
-#define PITCH_GATE_VERSION 10100 /* 1.1.0 */
+#define PITCH_GATE_VERSION 20000 /* 2.0.0 */
 
 /* The version of the archive that is linked, as PITCH_GATE_VERSION is of this header. */
 uint64_t pitch_gate_version(void);

@@ -7,5 +7,6 @@ pub mod Meaning
 pub mod Inverse
 pub mod DateMeaning
 pub mod TermMeaning
+pub mod Shifts
 pub mod DayNumbers
 pub mod March

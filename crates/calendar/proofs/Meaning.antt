@@ -1,23 +1,28 @@
 -- What the tests of terms say in plain words, both ways.
 -- Assumes nothing.
-use mathlib.Core.Path.{_≡_, refl}
+use mathlib.Core.Path.{_≡_, refl, sym}
 use mathlib.Core.Bool.{Bool, true, false, cond, not, _&&_, _||_, true≢false, false≢true, and-eq-true-iff}
 use mathlib.Core.Logic.{_↔_, Iff·trans, Iff·and, _⊎_, inl, inr, ⊎-map, ⊎-elim}
 use Prim.Native.Nat.{ℕ, _+_, _-_, _*_, _/_, _%_, _<_, _≤_}
 use native.Mathlib.Nat.{div-add-mod', mul-mod-left}
 use native.Mathlib.Omega.{arith}
-use borrow.Author.Tests.{leb-true, leb-false, le-leb, lt-leb, ltb-true, lt-ltb, eqb-true, eqb-false, eq-eqb, ne-eqb, not-true}
+use borrow.Author.Tests.{leb-true, leb-false, le-leb, lt-leb, ltb-true, ltb-false, lt-ltb, le-ltb, eqb-true, eqb-false, eq-eqb, ne-eqb, not-true}
 use lib.Dec.{leb, ltb, eqb}
-use Rattle.calendar.specs.Terms.{fromTo, minuteFromTo, multipleFrom, atMoment, termInRange, termSound, termHolds}
-use Rattle.calendar.specs.Statements.{FromTo, MinuteFromTo}
+use Rattle.calendar.specs.Days.{dayOf, minuteOf, weekdayOf}
+use Rattle.calendar.specs.Terms.{fromTo, minuteFromTo, weekdayBefore, countedWeekday, multipleFrom, atMoment, termInRange, termSound, termHolds}
+use Rattle.calendar.specs.Statements.{FromTo, MinuteFromTo, WeekdayBefore, CountedWeekday}
 use Rattle.calendar.specs.declared.terms.Term.{Term}
 use Rattle.sets.proofs.Booleans.{both, of-or, left-or, right-or}
+use Rattle.calendar.proofs.Weekdays.{weekday-range, weekday-before-means}
 
 pub le-means : (a b : ℕ) → (leb a b ≡ true) ↔ (a ≤ b)
 le-means a b = (leb-true a b, le-leb a b)
 
 pub lt-means : (a b : ℕ) → (ltb a b ≡ true) ↔ (a < b)
 lt-means a b = (ltb-true a b, lt-ltb a b)
+
+pub not-lt-means : (a b : ℕ) → (ltb a b ≡ false) ↔ (b ≤ a)
+not-lt-means a b = (ltb-false a b, le-ltb a b)
 
 pub eq-means : (a b : ℕ) → (eqb a b ≡ true) ↔ (a ≡ b)
 eq-means a b = (eqb-true a b, eq-eqb a b)
@@ -60,6 +65,31 @@ from-to-means a b x = past-end-means a b (leb a x) (leb x b) (le-means a x) (le-
 pub minute-from-to-means : (h k minute : ℕ) → (minuteFromTo h k minute ≡ true) ↔ MinuteFromTo h k minute
 unfolding minuteFromTo
 minute-from-to-means h k minute = past-end-means h k (leb h minute) (ltb minute k) (le-means h minute) (lt-means minute k)
+
+-- The weekday that a moment counts for: where h > k and the minute is before k the weekday before, else that of the moment.
+pub counted-weekday-means : (h k t counted : ℕ) → (countedWeekday h k t ≡ counted) ↔ CountedWeekday h k (minuteOf t) (weekdayOf (dayOf t)) counted
+unfolding countedWeekday
+counted-weekday-means h k t counted =
+    by-test (ltb k h && ltb (minuteOf t) k)
+    (both-mean (ltb k h) (ltb (minuteOf t) k) (lt-means k h) (lt-means (minuteOf t) k))
+    (one-fails (ltb k h) (ltb (minuteOf t) k) (not-lt-means k h) (not-lt-means (minuteOf t) k))
+  where
+    weekday : ℕ
+    weekday = weekdayOf (dayOf t)
+
+    before-means : (weekdayBefore weekday ≡ counted) ↔ WeekdayBefore weekday counted
+    before-means = weekday-before-means weekday counted (weekday-range (dayOf t) .0)
+
+    by-test : (early : Bool) → (early ≡ true) ↔ ((k < h) × (minuteOf t < k)) → (early ≡ false) ↔ ((h ≤ k) ⊎ (k ≤ minuteOf t)) →
+        (cond early (weekdayBefore weekday) weekday ≡ counted) ↔ CountedWeekday h k (minuteOf t) weekday counted
+    by-test true holds fails = (
+      λ same. inl (holds .0 refl .0, holds .0 refl .1, before-means .0 same),
+      ⊎-elim (λ found. before-means .1 (found .2)) (λ found. absurd (true≢false (fails .1 (found .0)))),
+    )
+    by-test false holds fails = (
+      λ same. inr (fails .0 refl, sym same),
+      ⊎-elim (λ found. absurd (false≢true (holds .1 (found .0, found .1)))) (λ found. sym (found .1)),
+    )
 
 -- The day is the first or some whole number of intervals after it.
 pub multiple-from-means : (n first day : ℕ) → 1 ≤ n → (multipleFrom n first day ≡ true) ↔ ((k : ℕ) × (day ≡ first + k * n))

@@ -9,10 +9,10 @@ use borrow.Author.Tests.{leb-false, lt-leb, eqb-true, eq-eqb, not-false}
 use lib.Dec.{leb, eqb}
 use Rattle.calendar.specs.Days.{dayOf, minuteOf, weekdayOf, dateOf, dateNumber, dayNumber, isDate}
 use Rattle.calendar.specs.Terms.{fromTo, minuteFromTo, minuteAt, countedWeekday, ordinalOf, multipleFrom, atMoment, between, isYear, isTimeOfDay, termInRange, termSound, termHolds}
-use Rattle.calendar.specs.Statements.{SuchDate, FromTo, MinuteFromTo, Between, TimeOfDay, RangedTerm, SoundTerm, AcceptedTerm}
+use Rattle.calendar.specs.Statements.{SuchDate, FromTo, InWeek, Between, TimeOfDay, RangedTerm, SoundTerm, AcceptedTerm}
 use Rattle.calendar.specs.declared.terms.Term.{Term}
 use Rattle.calendar.specs.declared.terms.Term.the-variants.{Dates, Week, Months, Nth, Every}
-use Rattle.calendar.proofs.Meaning.{le-means, eq-means, ne-means, both-mean, fails-means, one-fails, from-to-means, minute-from-to-means, multiple-from-means, holds-means}
+use Rattle.calendar.proofs.Meaning.{le-means, eq-means, ne-means, both-mean, fails-means, one-fails, from-to-means, minute-from-to-means, counted-weekday-means, multiple-from-means, holds-means}
 use Rattle.calendar.proofs.Inverse.{number-of-day, day-of-number, order-means}
 use Rattle.calendar.proofs.DateMeaning.{date-means, date-of-means}
 
@@ -95,22 +95,31 @@ dates-means A B t =
     (Iff·trans (le-means (dayNumber A) (dayOf t)) (rw (known .1) at (order-means A number first (known .0))))
     (Iff·trans (le-means (dayOf t) (dayNumber B)) (rw (known .1) at (order-means number B (known .0) last))))
 
+-- the two tests of a week term, in minutes of the day
+in-week-means : (a b h k t : ℕ) →
+    (fromTo a b (countedWeekday h k t) && minuteFromTo h k (minuteOf t) ≡ true) ↔ InWeek a b h k (weekdayOf (dayOf t)) (minuteOf t)
+in-week-means a b h k t =
+    both-mean (fromTo a b (countedWeekday h k t)) (minuteFromTo h k (minuteOf t)) (
+      λ e. (countedWeekday h k t, counted-weekday-means h k t _ .0 refl, from-to-means a b _ .0 e),
+      λ found. from-to-means a b _ .1 (rw (counted-weekday-means h k t (found .0) .1 (found .1)) (found .2)),
+    ) (minute-from-to-means h k (minuteOf t))
+
 -- hhmm is hh times 60 plus mm
 minute-at : (hour minute : ℕ) → minute ≤ 59 → minuteAt (hour * 100 + minute) ≡ hour * 60 + minute
 minute-at hour minute short = omega arith
 
 -- "`week a b h k`: weekday from a to b, going past 7 where a > b, and minute of the day from h up to but not k": h and k as hours and minutes.
+-- 2026-03: "minutes before k are tested against the weekday before" where h > k.
 pub week-means : (a b hour minute endHour endMinute t : ℕ) → minute ≤ 59 → endMinute ≤ 59 →
     (termHolds (Week a b (hour * 100 + minute) (endHour * 100 + endMinute)) t ≡ true) ↔
     (AcceptedTerm (Week a b (hour * 100 + minute) (endHour * 100 + endMinute)) × (t ≤ 3155759999) ×
-    (FromTo a b ((t / 86400 + 5) % 7 + 1) × MinuteFromTo (hour * 60 + minute) (endHour * 60 + endMinute) (t % 86400 / 60)))
-unfolding atMoment countedWeekday
+    InWeek a b (hour * 60 + minute) (endHour * 60 + endMinute) ((t / 86400 + 5) % 7 + 1) (t % 86400 / 60))
+unfolding atMoment
 week-means a b hour minute endHour endMinute t short end-short =
     term-means (Week a b (hour * 100 + minute) (endHour * 100 + endMinute)) t _
     (λ accepted time.
     rw (minute-at hour minute short, minute-at endHour endMinute end-short)
-    (both-mean (fromTo a b (weekdayOf (dayOf t))) (minuteFromTo (hour * 60 + minute) (endHour * 60 + endMinute) (minuteOf t))
-    (from-to-means a b (weekdayOf (dayOf t))) (minute-from-to-means (hour * 60 + minute) (endHour * 60 + endMinute) (minuteOf t))))
+    (in-week-means a b (hour * 60 + minute) (endHour * 60 + endMinute) t))
 
 -- "`months a b`: month (1 to 12) from a to b, going past 12 where a > b".
 pub months-means : (a b t : ℕ) →

@@ -65,6 +65,27 @@ FromTo a b x = ((a ≤ b) × (a ≤ x) × (x ≤ b)) ⊎ ((b < a) × ((a ≤ x) 
 abbrev pub MinuteFromTo : ℕ → ℕ → ℕ → Type 0
 MinuteFromTo h k minute = ((h ≤ k) × (h ≤ minute) × (minute < k)) ⊎ ((k < h) × ((h ≤ minute) ⊎ (minute < k)))
 
+-- 2026-03: "the weekday before", of "Weekday 1 (Monday) to 7"
+abbrev pub WeekdayBefore : ℕ → ℕ → Type 0
+WeekdayBefore weekday before = ((weekday ≡ 1) × (before ≡ 7)) ⊎ ((1 < weekday) × (before + 1 ≡ weekday))
+
+-- 2026-03: "In `week a b h k` with h > k, minutes before k are tested against the weekday before", all others against that of the moment
+abbrev pub CountedWeekday : (h k minute weekday counted : ℕ) → Type 0
+CountedWeekday h k minute weekday counted =
+    ((k < h) × (minute < k) × WeekdayBefore weekday counted) ⊎ (((h ≤ k) ⊎ (k ≤ minute)) × (counted ≡ weekday))
+
+-- "weekday from a to b .., and minute of the day from h up to but not k"
+abbrev pub InWeek : (a b h k weekday minute : ℕ) → Type 0
+InWeek a b h k weekday minute = ((counted : ℕ) × CountedWeekday h k minute weekday counted × FromTo a b counted) × MinuteFromTo h k minute
+
+-- 2026-03: "a shift belongs to the day it begins": on some day, which has a weekday from a to b, a shift begins at minute h, and t is in it, from
+-- then up to but not the next minute k. Days are counted from seven days before 2000-01-01, as a shift may have begun on the day before that
+-- date; the weekdays are the same.
+abbrev pub InShift : (a b h k t : ℕ) → Type 0
+InShift a b h k t =
+    (day : ℕ) × FromTo a b ((day + 5) % 7 + 1) × (day * 86400 + h * 60 ≤ t + 7 * 86400)
+    × (((h < k) × (t + 7 * 86400 < day * 86400 + k * 60)) ⊎ ((k < h) × (t + 7 * 86400 < (day + 1) * 86400 + k * 60)))
+
 -- ---- what a term must be
 
 abbrev pub Between : ℕ → ℕ → ℕ → Type 0

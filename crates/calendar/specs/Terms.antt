@@ -1,5 +1,6 @@
--- Document 01, 'Calendar': the five terms, when each holds, and what 11 and 14 look for in one. What each says over numbers is proved in
--- proofs/TermMeaning.antt.
+-- Document 01, 'Calendar', with request 2026-03: the five terms, when each holds, and what 11 and 14 look for in one. What each says over
+-- numbers is proved in proofs/TermMeaning.antt; that a shift belongs to the day it begins, and what the request left as it was, in
+-- proofs/Shifts.antt.
 -- Assumes nothing.
 use Prim.Native.Nat.{ℕ, _+_, _-_, _*_, _/_, _%_}
 use mathlib.Core.Bool.{Bool, true, cond, not, _&&_, _||_}
@@ -22,9 +23,13 @@ minuteFromTo h k minute = cond (leb h k) (leb h minute && ltb minute k) (leb h m
 abbrev pub minuteAt : ℕ → ℕ
 minuteAt hhmm = hhmm / 100 * 60 + hhmm % 100
 
--- "The weekday is that of the moment."
-unfoldable pub countedWeekday : ℕ → ℕ
-countedWeekday t = weekdayOf (dayOf t)
+-- 2026-03: "the weekday before": Sunday, 7, is before Monday, 1
+abbrev pub weekdayBefore : ℕ → ℕ
+weekdayBefore weekday = cond (eqb weekday 1) 7 (weekday - 1)
+
+-- 2026-03: "In `week a b h k` with h > k, minutes before k are tested against the weekday before", all others against that of the moment
+unfoldable pub countedWeekday : ℕ → ℕ → ℕ → ℕ
+countedWeekday h k t = cond (ltb k h && ltb (minuteOf t) k) (weekdayBefore (weekdayOf (dayOf t))) (weekdayOf (dayOf t))
 
 -- "(day of month - 1) / 7 rounded down + 1"
 abbrev pub ordinalOf : ℕ → ℕ
@@ -39,7 +44,7 @@ unfoldable pub atMoment : Term → ℕ → Bool
 -- "`dates A B`: day from A to B, both included"
 atMoment (Dates A B) t = leb (dayNumber A) (dayOf t) && leb (dayOf t) (dayNumber B)
 -- "`week a b h k`: weekday from a to b .., and minute of the day from h up to but not k"
-atMoment (Week a b h k) t = fromTo a b (countedWeekday t) && minuteFromTo (minuteAt h) (minuteAt k) (minuteOf t)
+atMoment (Week a b h k) t = fromTo a b (countedWeekday (minuteAt h) (minuteAt k) t) && minuteFromTo (minuteAt h) (minuteAt k) (minuteOf t)
 -- "`months a b`: month (1 to 12) from a to b"
 atMoment (Months a b) t = fromTo a b (dateOf (dayOf t) .month)
 -- "`nth k d`: weekday d and (day of month - 1) / 7 rounded down + 1 = k"

@@ -2,7 +2,7 @@
 ghost use mathlib.Core.Path.{_≡_};
 ghost use mathlib.Core.Bool.{true};
 ghost use Prim.Native.Nat.{_≤_};
-ghost use Rattle.calendar.specs.Terms.{fromTo, minuteFromTo, minuteAt, countedWeekday, ordinalOf, multipleFrom, atMoment, termHolds, between, isYear, isTimeOfDay, termInRange, termSound};
+ghost use Rattle.calendar.specs.Terms.{fromTo, minuteFromTo, minuteAt, weekdayBefore, countedWeekday, ordinalOf, multipleFrom, atMoment, termHolds, between, isYear, isTimeOfDay, termInRange, termSound};
 use crate::days::Date;
 use crate::days::date_within;
 use crate::days::day_number;
@@ -122,8 +122,10 @@ impl Term {
                 start,
                 end,
             } => {
-                from_to(first as u64, last as u64, counted_weekday(t))
-                    & minute_from_to(minute_at(start), minute_at(end), minute_of(t))
+                let from = minute_at(start);
+                let until = minute_at(end);
+                from_to(first as u64, last as u64, counted_weekday(from, until, t))
+                    & minute_from_to(from, until, minute_of(t))
             }
             Term::Months { first, last } => {
                 let date = date_within(day);
@@ -170,11 +172,23 @@ fn minute_at(hhmm: u32) -> u64
     wide / 100 * 60 + wide % 100
 }
 
-// The weekday that a time counts for.
-fn counted_weekday(t: u64) -> u64
-    ensures { λ r. ⌜ r ≡ countedWeekday t ⌝ }
+// The weekday that time t counts for: a shift that goes past midnight belongs to the day it begins.
+fn counted_weekday(start: u64, end: u64, t: u64) -> u64
+    ensures { λ r. ⌜ r ≡ countedWeekday start end t ⌝ }
 {
-    weekday_of(day_of(t))
+    let weekday = weekday_of(day_of(t));
+    if (end < start) & (minute_of(t) < end) {
+        return weekday_before(weekday);
+    }
+    weekday
+}
+
+// Sunday is before Monday.
+fn weekday_before(weekday: u64) -> u64
+    requires { ⌜ 1 ≤ weekday ⌝ }
+    ensures { λ r. ⌜ r ≡ weekdayBefore weekday ⌝ }
+{
+    if weekday == 1 { 7 } else { weekday - 1 }
 }
 
 // How many times its weekday has come in the month, up to a day of the month.

@@ -17,14 +17,15 @@ fn main() {
     line(b"week 1 5 0700 1900 ", sum(6));
     line(b"week 6 2 0000 2400 ", sum(7));
     line(b"week 5 5 2200 0600 ", sum(8));
-    line(b"months 4 9 ", sum(9));
-    line(b"months 11 2 ", sum(10));
-    line(b"nth 2 1 ", sum(11));
-    line(b"nth 5 7 ", sum(12));
-    line(b"every 14 20000229 ", sum(13));
-    line(b"every 1000 20991231 ", sum(14));
-    line(b"dates 20010229 20991231 ", sum(15));
-    line(b"months 0 12 ", sum(16));
+    line(b"week 6 1 2200 0600 ", sum(9));
+    line(b"months 4 9 ", sum(10));
+    line(b"months 11 2 ", sum(11));
+    line(b"nth 2 1 ", sum(12));
+    line(b"nth 5 7 ", sum(13));
+    line(b"every 14 20000229 ", sum(14));
+    line(b"every 1000 20991231 ", sum(15));
+    line(b"dates 20010229 20991231 ", sum(16));
+    line(b"months 0 12 ", sum(17));
 }
 
 fn line(label: &[u8], n: u64) {
@@ -86,46 +87,41 @@ fn sample(which: u64) -> Term {
             from: 20040229,
             to: 20961231,
         },
-        6 => Term::Week {
-            first: 1,
-            last: 5,
-            start: 700,
-            end: 1900,
-        },
-        7 => Term::Week {
-            first: 6,
-            last: 2,
-            start: 0,
-            end: 2400,
-        },
-        8 => Term::Week {
-            first: 5,
-            last: 5,
-            start: 2200,
-            end: 600,
-        },
-        9 => Term::Months { first: 4, last: 9 },
-        10 => Term::Months { first: 11, last: 2 },
-        11 => Term::Nth {
+        6 => week(1, 5, 700, 1900),
+        7 => week(6, 2, 0, 2400),
+        8 => week(5, 5, 2200, 600),
+        9 => week(6, 1, 2200, 600),
+        10 => Term::Months { first: 4, last: 9 },
+        11 => Term::Months { first: 11, last: 2 },
+        12 => Term::Nth {
             ordinal: 2,
             weekday: 1,
         },
-        12 => Term::Nth {
+        13 => Term::Nth {
             ordinal: 5,
             weekday: 7,
         },
-        13 => Term::Every {
+        14 => Term::Every {
             interval: 14,
             from: 20000229,
         },
-        14 => Term::Every {
+        15 => Term::Every {
             interval: 1000,
             from: 20991231,
         },
-        15 => Term::Dates {
+        16 => Term::Dates {
             from: 20010229,
             to: 20991231,
         },
         _ => Term::Months { first: 0, last: 12 },
+    }
+}
+
+fn week(first: u32, last: u32, start: u32, end: u32) -> Term {
+    Term::Week {
+        first,
+        last,
+        start,
+        end,
     }
 }

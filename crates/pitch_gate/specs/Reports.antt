@@ -15,9 +15,9 @@ use Rattle.texts.specs.declared.saved_runs.Text.{Text}
 use Rattle.texts.specs.declared.saved_runs.Text.the-variants as Text
 use Rattle.texts.specs.declared.saved_runs.Report.{Report}
 
--- 1.1.0
+-- 2.0.0
 abbrev pub version : ℕ
-version = 10100
+version = 20000
 
 -- ---- a report as numbers
 

@@ -1,4 +1,4 @@
--- Document 01, 'Edges': the starred ones, as one table. That each row holds is `edges-hold` of proofs/Edges.antt.
+-- Document 01, 'Edges', with request 2026-03: the starred ones, as one table. That each row holds is `edges-hold` of proofs/Edges.antt.
 -- Assumes nothing.
 use mathlib.Core.Path.{_≡_}
 use mathlib.Core.Bool.{Bool, true, false}
@@ -58,13 +58,39 @@ edges =
     ∷ term (Week 1 5 700 1900) (moment 9655 6 59) false
     ∷ term (Week 1 5 700 1900) (moment 9655 7 0) true
     ∷ term (Week 1 5 700 1900) (moment 9655 19 0) false
-    -- "`week 5 5 2200 0600`: Saturday 01:00 no."; day 9660 is one
+    -- 2026-03: "`week 5 5 2200 0600` thus holds on Saturday at 01:00 and fails on Friday at 01:00"; days 9660 and 9659 are such
     ∷ weekday 9660 6
-    ∷ term (Week 5 5 2200 600) (moment 9660 1 0) false
-    -- the same hour on the Friday before it, and that day's 22:00: the no is for the weekday alone
+    ∷ term (Week 5 5 2200 600) (moment 9660 1 0) true
     ∷ weekday 9659 5
-    ∷ term (Week 5 5 2200 600) (moment 9659 1 0) true
+    ∷ term (Week 5 5 2200 600) (moment 9659 1 0) false
+    -- the shift's ends: it begins on Friday at 22:00 and ends on Saturday at 06:00, and none begins on Saturday
+    ∷ term (Week 5 5 2200 600) (moment 9659 21 59) false
     ∷ term (Week 5 5 2200 600) (moment 9659 22 0) true
+    ∷ term (Week 5 5 2200 600) (moment 9660 5 59) true
+    ∷ term (Week 5 5 2200 600) (moment 9660 6 0) false
+    ∷ term (Week 5 5 2200 600) (moment 9660 22 0) false
+    -- past 7 (a > b) and past midnight at once: the shifts of Saturday, Sunday and Monday, days 9660 to 9662
+    ∷ weekday 9662 1
+    ∷ term (Week 6 1 2200 600) (moment 9660 1 0) false
+    ∷ term (Week 6 1 2200 600) (moment 9660 22 0) true
+    ∷ term (Week 6 1 2200 600) (moment 9662 1 0) true
+    ∷ term (Week 6 1 2200 600) (moment 9662 22 0) true
+    ∷ term (Week 6 1 2200 600) (moment 9663 1 0) true
+    ∷ term (Week 6 1 2200 600) (moment 9663 22 0) false
+    -- Sunday to Monday: the weekday before 1 is 7
+    ∷ weekday 9661 7
+    ∷ term (Week 7 7 2200 600) (moment 9661 1 0) false
+    ∷ term (Week 7 7 2200 600) (moment 9661 22 0) true
+    ∷ term (Week 7 7 2200 600) (moment 9662 1 0) true
+    ∷ term (Week 1 1 2200 600) (moment 9662 1 0) false
+    -- t below one day: day 0 is a Saturday, and the weekday before it is Friday
+    ∷ term (Week 5 5 2200 600) 0 true
+    ∷ term (Week 5 5 2200 600) (moment 0 5 59) true
+    ∷ term (Week 5 5 2200 600) (moment 0 6 0) false
+    ∷ term (Week 6 6 2200 600) (moment 0 1 0) false
+    -- 2026-03: "Terms with h < k are untouched": the weekday is that of the moment
+    ∷ term (Week 5 5 0 600) (moment 9659 1 0) true
+    ∷ term (Week 5 5 0 600) (moment 9660 1 0) false
     ∷ []
 
 -- every row of a table holds

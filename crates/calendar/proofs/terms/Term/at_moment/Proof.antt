@@ -41,6 +41,12 @@ day-number-requires-2 c κs = dates (c .before) .1
 enum-known-self-2 : tie.Need-enum-known-self-2
 enum-known-self-2 c = search needs
 
+minute-at-requires : tie.Need-minute-at-requires
+minute-at-requires c κs = search needs
+
+minute-at-requires-2 : tie.Need-minute-at-requires-2
+minute-at-requires-2 c κs = search needs
+
 cast-from-to : tie.Need-cast-from-to
 cast-from-to c = search needs
 
@@ -52,12 +58,6 @@ counted-weekday-requires c κs = search needs
 
 from-to-requires : tie.Need-from-to-requires
 from-to-requires c κs = search needs
-
-minute-at-requires : tie.Need-minute-at-requires
-minute-at-requires c κs = search needs
-
-minute-at-requires-2 : tie.Need-minute-at-requires-2
-minute-at-requires-2 c κs = search needs
 
 minute-of-requires : tie.Need-minute-of-requires
 minute-of-requires c κs = search needs
@@ -127,16 +127,16 @@ returns c =
 returns-2 : tie.Need-returns-2
 unfolding atMoment
 returns-2 c =
-    let minutes = c .before .before .before in
-    let weekday = minutes .before .before in
+    let weekday = c .before .before .before in
+    let minutes = weekday .before .before in
     simp (
-      weekday .before .before .self2 .given .1,
+      minutes .before .before .self2 .given .1,
       c .minute-from-to .ensures,
       c .before .minute-of .ensures,
-      c .before .before .minute-at2 .ensures,
-      minutes .minute-at .ensures,
-      minutes .before .from-to .ensures,
+      c .before .before .from-to .ensures,
       weekday .counted-weekday .ensures,
+      weekday .before .minute-at2 .ensures,
+      minutes .minute-at .ensures,
     )
 
 returns-3 : tie.Need-returns-3
@@ -169,12 +169,12 @@ at-moment-spec =
     cast-day-number-2
     day-number-requires-2
     enum-known-self-2
+    minute-at-requires
+    minute-at-requires-2
     cast-from-to
     cast-from-to-2
     counted-weekday-requires
     from-to-requires
-    minute-at-requires
-    minute-at-requires-2
     minute-of-requires
     minute-from-to-requires
     enum-known-self-3
