@@ -575,18 +575,18 @@ fn term_holds(term: &Term, time: u64) -> bool {
     }
 }
 
-// "The weekday is that of the moment".
+// 2026-03: "a shift belongs to the day it begins". Six days on is the weekday before.
 fn week_holds(week: &Week, time: u64) -> bool {
     let minute = time % 86_400 / 60;
-    let on_day = going_round(week.first, week.last, weekday(time / 86_400));
+    let day = time / 86_400;
     let start = week.start / 100 * 60 + week.start % 100;
     let end = week.end / 100 * 60 + week.end % 100;
-    let on_minute = if week.start > week.end {
-        minute >= start || minute < end
+    let (begun, on_minute) = if week.start > week.end && minute < end {
+        (day + 6, true)
     } else {
-        minute >= start && minute < end
+        (day, minute >= start && (week.start > week.end || minute < end))
     };
-    on_day && on_minute
+    on_minute && going_round(week.first, week.last, weekday(begun))
 }
 
 // From first to last, going past the end where first > last.

@@ -139,8 +139,8 @@ def week():
     left, day_width, top, row = 24, 104, 96, 74
     terms = {
         "(week 1 5 0700 1900)": "Monday to Friday, 07:00 to 19:00",
-        "(week 5 5 2200 0600)": "past midnight, on Friday alone: before 06:00 and from 22:00",
-        "(week 5 6 2200 0600)": "past midnight, on Friday and on Saturday",
+        "(week 5 5 2200 0600)": "past midnight: the shift that begins on Friday",
+        "(week 5 6 2200 0600)": "past midnight: the shifts that begin on Friday and on Saturday",
         "(week 6 1 0000 2400)": "past Sunday: Saturday, Sunday and Monday, all day",
     }
     parts = [text(left, 30, "When a term holds, asked of the gate at every half hour of a week", size=15)]
@@ -150,7 +150,7 @@ def week():
         parts += [text(left, y, term, family=MONO), text(left + 8.2 * (len(term) + 1), y, words, fill=GREY)]
         parts += strip(left, y + 10, day_width, term)
     bottom = top + row * len(terms)
-    parts.append(text(left, bottom, "The weekday is that of the moment: in the night from Friday to Saturday, 01:00 is on Saturday."))
+    parts.append(text(left, bottom, "A shift belongs to the day it begins: Saturday at 01:00 is in Friday's shift, and Friday at 01:00 is not."))
     return picture(left * 2 + 7 * day_width, bottom + 20, "When four week terms hold", parts)
 
 

@@ -62,6 +62,9 @@
  *   forms of lines, numbers and texts, and take more stack: treat a number that you do not know as a refusal. A higher third
  *   number changes nothing that is said here. So a caller may start where
  *   pitch_gate_version() / 10000 == PITCH_GATE_VERSION / 10000 and pitch_gate_version() >= PITCH_GATE_VERSION.
+ *   The texts of version 1 are read, and mean what they meant but for one: a term (week a b h k) with h > k now belongs to the
+ *   day on which the shift begins. Under such a rule a state that version 1 saved may be 17. All ends that share records take
+ *   the same major version.
  */
 #ifndef PITCH_GATE_H
 #define PITCH_GATE_H

@@ -89,14 +89,63 @@ fn a_week_term_on_a_monday() {
     assert!(!term.holds(at(MONDAY + 5, 7, 0)));
 }
 
+/// Request 2026-03: "`week 5 5 2200 0600` thus holds on Saturday at 01:00 and fails on
+/// Friday at 01:00."
 #[test]
-fn a_week_term_past_midnight_has_the_weekday_of_the_moment() {
+fn a_week_term_past_midnight_has_the_weekday_on_which_it_begins() {
     let term = week(5, 5, 22 * 60, 6 * 60);
     let friday = MONDAY + 4;
-    assert!(term.holds(at(friday, 1, 0)));
+    assert!(!term.holds(at(friday, 1, 0)));
     assert!(!term.holds(at(friday, 6, 0)));
     assert!(term.holds(at(friday, 22, 0)));
-    assert!(!term.holds(at(friday + 1, 1, 0)));
+    assert!(term.holds(at(friday + 1, 1, 0)));
+    assert!(!term.holds(at(friday + 1, 6, 0)));
+    assert!(!term.holds(at(friday + 1, 22, 0)));
+    let term = week(7, 7, 22 * 60, 6 * 60);
+    assert!(term.holds(at(MONDAY, 1, 0)));
+    assert!(!term.holds(at(MONDAY, 22, 0)));
+}
+
+/// "At t below one day": day 0 is a Saturday, and Friday's shift began before the range.
+#[test]
+fn a_shift_that_began_on_the_day_before_day_0() {
+    let term = week(5, 5, 22 * 60, 6 * 60);
+    assert!(term.holds(0));
+    assert!(term.holds(at(0, 5, 59) + 59));
+    assert!(!term.holds(at(0, 6, 0)));
+    assert!(!week(6, 6, 22 * 60, 6 * 60).holds(0));
+}
+
+/// "A shift belongs to the day it begins": each minute of a month, from day 0 on, beside
+/// the shifts that are drawn on a line.
+#[test]
+fn a_week_term_holds_in_the_shifts_that_begin_on_its_weekdays() {
+    let hours = [(0, 1), (0, 1440), (420, 1140), (1320, 360), (1439, 1), (720, 719)];
+    for (first, last) in (1..=7).flat_map(|first| (1..=7).map(move |last| (first, last))) {
+        for (from, until) in hours {
+            let term = week(first, last, from, until);
+            let drawn = shifts(first, last, from, until);
+            for (minute, in_shift) in drawn.into_iter().enumerate() {
+                assert_eq!(term.holds(60 * minute as i64 + 59), in_shift, "{term} {minute}");
+            }
+        }
+    }
+}
+
+/// Whether each minute of 31 days is in a shift; the first of them may have begun on the
+/// day before.
+fn shifts(first: i64, last: i64, from: i64, until: i64) -> Vec<bool> {
+    let mut minutes = vec![false; 31 * 1440];
+    let end = if from < until { until } else { 1440 + until };
+    for day in -1..31 {
+        if (weekday(day) - first).rem_euclid(7) <= (last - first).rem_euclid(7) {
+            let shift = day * 1440 + from..day * 1440 + end;
+            for minute in shift.filter(|&minute| minute >= 0 && minute < 31 * 1440) {
+                minutes[minute as usize] = true;
+            }
+        }
+    }
+    minutes
 }
 
 #[test]

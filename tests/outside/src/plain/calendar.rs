@@ -1,4 +1,4 @@
-//! "Calendar": which terms hold at a time.
+//! "Calendar", and request 2026-03: which terms hold at a time.
 
 use std::fmt;
 
@@ -45,8 +45,9 @@ impl Term {
         match *self {
             Term::Dates { first, last } => first.day() <= day && day <= last.day(),
             Term::Week { first, last, from, until } => {
-                between_going_past(first, weekday(day), last)
-                    && minute_between(from, minute_of_day(time), until)
+                let minute = minute_of_day(time);
+                between_going_past(first, weekday_tested(day, from, minute, until), last)
+                    && minute_between(from, minute, until)
             }
             Term::Months { first, last } => {
                 between_going_past(first, Date::of_day(day).month, last)
@@ -75,6 +76,16 @@ impl Term {
 
 pub fn weekday(day: i64) -> i64 {
     (day + 5) % 7 + 1
+}
+
+/// 2026-03: "In `week a b h k` with h > k, minutes before k are tested against the weekday
+/// before." The day before day 0 is -1, a Friday.
+fn weekday_tested(day: i64, from: i64, minute: i64, until: i64) -> i64 {
+    if from > until && minute < until {
+        weekday(day - 1)
+    } else {
+        weekday(day)
+    }
 }
 
 pub fn minute_of_day(time: i64) -> i64 {
