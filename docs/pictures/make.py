@@ -140,7 +140,7 @@ def week():
     terms = {
         "(week 1 5 0700 1900)": "Monday to Friday, 07:00 to 19:00",
         "(week 5 5 2200 0600)": "past midnight: the shift that begins on Friday",
-        "(week 5 6 2200 0600)": "past midnight: the shifts that begin on Friday and on Saturday",
+        "(week 7 1 2200 0600)": "past midnight and past Sunday: the shifts that begin on Sunday and on Monday",
         "(week 6 1 0000 2400)": "past Sunday: Saturday, Sunday and Monday, all day",
     }
     parts = [text(left, 30, "When a term holds, asked of the gate at every half hour of a week", size=15)]
