@@ -1,4 +1,11 @@
 pub mod Signed
+pub mod Integers
 pub mod Squares
+pub mod Roots
+pub mod Orders
 pub mod Grid
+pub mod Circles
+pub mod Boxes
 pub mod Meaning
+pub mod Sureness
+pub mod Errors

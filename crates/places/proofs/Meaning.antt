@@ -1,16 +1,19 @@
--- What the tests of places mean: document 01, 'Places', over the integers.
+-- What the tests of places mean: document 01, 'Places', and request 2026-04 over the integers.
 -- Assumes nothing.
 use mathlib.Core.Path.{_≡_, refl, sym, _∙_, ap}
-use mathlib.Core.Bool.{Bool, true, false, cond, _&&_, true≢false, false≢true, and-eq-true-iff}
-use mathlib.Core.Logic.{_↔_, Iff·trans, Iff·and, Iff·not, _⊎_, inl, inr, ⊎-elim}
-use Prim.Native.Nat.{ℕ, suc, _+_, _*_, _≤_}
+use mathlib.Core.Bool.{Bool, true, false, cond, _&&_, true≢false, false≢true}
+use mathlib.Core.Logic.{_↔_, Iff·trans, _⊎_, inl, inr, ⊎-elim}
+use Prim.Native.Nat.{ℕ, suc, _+_, _-_, _*_, _≤_, _<_}
+use native.Mathlib.Nat.{mul-le-mul}
 use native.Mathlib.Omega.{arith}
-use borrow.Author.Tests.{le-leb, lt-leb, leb-true, leb-false, lt-ltb, ltb-true}
-use lib.Dec.{T, leb, ltb, leb→le, le→leb}
-use lib.IntN.{ℤ, pos, negsuc, _+ℤ_, _-ℤ_, _*ℤ_}
+use borrow.Author.Tests.{le-leb, leb-true, lt-ltb, ltb-true}
+use lib.Dec.{leb, ltb, leb→le, le→leb, ltb→lt, lt→ltb}
+use lib.IntN.{ℤ, pos, negsuc, natAbs, _+ℤ_, _-ℤ_, _*ℤ_}
 use lib.Signed.{leZ, _≤ℤ_, _<ℤ_}
-use Rattle.places.specs.Places.{square, inCircle, inBox, contains, onGrid, pointInRange, shapeInRange, shapeSound, insideOrOutside, locate, isInside, isOutside, sideHolds}
-use Rattle.places.specs.Statements.{Coordinate, OnGrid, RangedShape, SoundShape, AcceptedShape, squareℤ, Within}
+use Rattle.places.specs.Places.{square, squaredDistance, insideCircle, outsideCircle, withinBy, insideBox, beyond, outsideBox, surelyInside, surelyOutside, onGrid, pointInRange, shapeInRange, shapeSound, outcomeOf, locate, isInside, isOutside, sideHolds}
+use Rattle.places.specs.Statements.{Coordinate, RangedPoint, RangedShape, SoundShape, AcceptedShape, squareℤ, squaredDistanceℤ, Within, SurelyInside, SurelyOutside}
+use Rattle.places.proofs.Orders.{at-most, is-true, at-mostℤ, both-mean, one-fails, aboveℤ}
+use Rattle.places.proofs.Boxes.{Nearest, nearest, beyond-nearest}
 use Rattle.places.specs.declared.Point.{Point}
 use Rattle.places.specs.declared.Position.{Position}
 use Rattle.places.specs.declared.Position.the-variants.{Unknown, Known}
@@ -19,34 +22,7 @@ use Rattle.places.specs.declared.Shape.the-variants.{Circle, Box}
 use Rattle.places.specs.declared.Side.{Side}
 use Rattle.places.specs.declared.Side.the-variants as side
 use Rattle.places.specs.declared.Outcome.{Outcome}
-use Rattle.places.specs.declared.Outcome.the-variants.{Inside, Outside, Neither}
-
--- ---- tests as propositions
-
-at-most : (a b : ℕ) → (leb a b ≡ true) ↔ (a ≤ b)
-at-most a b = (leb-true a b, le-leb a b)
-
-is-true : (b : Bool) → T b → b ≡ true
-is-true true t = refl
-is-true false t = absurd t
-
-at-mostℤ : (a b : ℤ) → (leZ a b ≡ true) ↔ (a ≤ℤ b)
-at-mostℤ a b = (λ e. record { le = rw e tt }, λ h. is-true (leZ a b) (h .le))
-
-both-mean : {A B : Type 0} (a b : Bool) → (a ≡ true) ↔ A → (b ≡ true) ↔ B → (a && b ≡ true) ↔ (A × B)
-both-mean a b h k = Iff·trans (and-eq-true-iff a b) (Iff·and h k)
-
-one-fails : {A B : Type 0} (a b : Bool) → (a ≡ false) ↔ A → (b ≡ false) ↔ B → (a && b ≡ false) ↔ (A ⊎ B)
-one-fails true b h k = (λ e. inr (k .0 e), ⊎-elim (λ l. absurd (true≢false (h .1 l))) (λ r. k .1 r))
-one-fails false b h k = (λ e. inl (h .0 refl), λ e. refl)
-
-aboveℤ : (a b : ℤ) → (leZ a b ≡ false) ↔ (b <ℤ a)
-aboveℤ (pos a) (pos b) =
-    (λ e. record { lt = rw (lt-ltb b a (leb-false a b e)) tt }, λ h. lt-leb a b (ltb-true b a (is-true (ltb b a) (h .lt))))
-aboveℤ (pos a) (negsuc b) = (λ e. record { lt = tt }, λ h. refl)
-aboveℤ (negsuc a) (pos b) = (λ e. absurd (true≢false e), λ h. absurd (h .lt))
-aboveℤ (negsuc a) (negsuc b) =
-    (λ e. record { lt = rw (lt-ltb a b (leb-false b a e)) tt }, λ h. lt-leb b a (ltb-true a b (is-true (ltb a b) (h .lt))))
+use Rattle.places.specs.declared.Outcome.the-variants.{Inside, Outside, Unsure, Neither}
 
 -- ---- what 11 and 14 look for
 
@@ -56,10 +32,11 @@ grid-means (pos n) = (λ e. (record { le = tt }, record { le = rw e tt }), λ h.
 grid-means (negsuc n) =
     (λ e. (record { le = le→leb n 999999 (let l = leb-true (suc n) 1000000 e in omega arith) }, record { le = tt }), λ h. le-leb (suc n) 1000000 (let l = leb→le n 999999 (h .0 .le) in omega arith))
 
--- Both coordinates of a point are.
-pub point-means : (point : Point) → (pointInRange point ≡ true) ↔ OnGrid point
+-- Both coordinates of a point are, and its error is at most 1000.
+pub point-means : (point : Point) → (pointInRange point ≡ true) ↔ RangedPoint point
 unfolding pointInRange
-point-means point = both-mean (onGrid (point .x)) (onGrid (point .y)) (grid-means (point .x)) (grid-means (point .y))
+point-means point =
+    both-mean (onGrid (point .x) && onGrid (point .y)) (leb (point .error) 1000) (both-mean (onGrid (point .x)) (onGrid (point .y)) (grid-means (point .x)) (grid-means (point .y))) (at-most (point .error) 1000)
 
 -- 11 does not refuse a shape exactly where each of its numbers is in its range.
 pub shape-range-means : (shape : Shape) → (shapeInRange shape ≡ true) ↔ RangedShape shape
@@ -80,51 +57,102 @@ pub box-refused-means : (a b c d : ℤ) → (shapeSound (Box a b c d) ≡ false)
 unfolding shapeSound
 box-refused-means a b c d = one-fails (leZ a c) (leZ b d) (aboveℤ a c) (aboveℤ b d)
 
--- ---- inside a shape
+-- ---- surely inside and surely outside a shape
 
 -- The square of an integer is its product with itself.
 pub square-means : (z : ℤ) → pos (square z) ≡ z *ℤ z
 square-means (pos n) = refl
 square-means (negsuc n) = refl
 
--- A point is in a circle exactly where dx² + dy² ≤ q², and in a box exactly where a ≤ x ≤ c and b ≤ y ≤ d.
-pub within-means : (shape : Shape) (point : Point) → (contains shape point ≡ true) ↔ Within shape point
-unfolding contains inCircle inBox
-within-means (Circle x y q) point =
-    let dx : ℤ = point .x -ℤ x in
-    let dy : ℤ = point .y -ℤ y in
-    let same : squareℤ dx +ℤ squareℤ dy ≡ pos (square dx + square dy) = rw (← (square-means dx), ← (square-means dy)) in
-    rw same (at-mostℤ (pos (square dx + square dy)) (pos (q * q)))
-within-means (Box a b c d) point =
-    both-mean (leZ a (point .x) && leZ (point .x) c) (leZ b (point .y) && leZ (point .y) d) (both-mean (leZ a (point .x)) (leZ (point .x) c) (at-mostℤ a (point .x)) (at-mostℤ (point .x) c)) (both-mean (leZ b (point .y)) (leZ (point .y) d) (at-mostℤ b (point .y)) (at-mostℤ (point .y) d))
+-- Two squares together, compared with a third.
+squares : (u v : ℤ) → squareℤ u +ℤ squareℤ v ≡ pos (square u + square v)
+squares u v = rw (← (square-means u), ← (square-means v))
 
--- ---- an accepted shape and a point on the grid
+pub squares-most : (u v : ℤ) (r : ℕ) → ((squareℤ u +ℤ squareℤ v) ≤ℤ squareℤ (pos r)) ↔ (square u + square v ≤ r * r)
+squares-most u v r =
+    rw (squares u v) (λ h. leb→le (square u + square v) (r * r) (h .le), λ h. record { le = le→leb (square u + square v) (r * r) h })
 
-inside-by : (b : Bool) → (insideOrOutside b ≡ Inside) ↔ (b ≡ true)
-inside-by true = (λ e. refl, λ e. refl)
-inside-by false = (λ e. cc, λ e. cc)
+pub squares-over : (u v : ℤ) (r : ℕ) → (squareℤ (pos r) <ℤ (squareℤ u +ℤ squareℤ v)) ↔ (r * r < square u + square v)
+squares-over u v r =
+    rw (squares u v) (λ h. ltb→lt (r * r) (square u + square v) (h .lt), λ h. record { lt = lt→ltb (r * r) (square u + square v) h })
 
-module _ (shape : Shape) (point : Point) (accepted : AcceptedShape shape) (grid : OnGrid point) where
-  decided : locate shape (Known point) ≡ insideOrOutside (contains shape point)
+flip : {A B : Type 0} → A ↔ B → B ↔ A
+flip h = (h .1, h .0)
+
+-- A point is surely inside a circle exactly where e ≤ q and d² ≤ (q - e)², and a box exactly where it is e or more within all four sides.
+pub surely-inside-means : (shape : Shape) (point : Point) → (surelyInside shape point ≡ true) ↔ SurelyInside shape point
+unfolding surelyInside insideCircle insideBox
+surely-inside-means (Circle x y q) point =
+    let e = point .error in
+    let dx = point .x -ℤ x in
+    let dy = point .y -ℤ y in
+    both-mean (leb e q) (leb (square dx + square dy) ((q - e) * (q - e))) (at-most e q) (Iff·trans (at-most (square dx + square dy) ((q - e) * (q - e))) (flip (squares-most dx dy (q - e))))
+surely-inside-means (Box a b c d) point =
+    both-mean (withinBy (point .error) a c (point .x)) (withinBy (point .error) b d (point .y)) (by-sides a c (point .x)) (by-sides b d (point .y))
+  where
+    by-sides : (low high z : ℤ) → (withinBy (point .error) low high z ≡ true) ↔ (((low +ℤ pos (point .error)) ≤ℤ z) × ((z +ℤ pos (point .error)) ≤ℤ high))
+    by-sides low high z =
+        both-mean (leZ (low +ℤ pos (point .error)) z) (leZ (z +ℤ pos (point .error)) high) (at-mostℤ (low +ℤ pos (point .error)) z) (at-mostℤ (z +ℤ pos (point .error)) high)
+
+-- It is surely outside a circle exactly where d² > (q + e)², and a box, whose sides are in order, exactly where each of its points is more
+-- than e away.
+pub surely-outside-means : (shape : Shape) (point : Point) → SoundShape shape → (surelyOutside shape point ≡ true) ↔ SurelyOutside shape point
+unfolding surelyOutside outsideCircle outsideBox
+surely-outside-means (Circle x y q) point sound =
+    let r = q + point .error in
+    let dx = point .x -ℤ x in
+    let dy = point .y -ℤ y in
+    Iff·trans (ltb-true (r * r) (square dx + square dy), lt-ltb (r * r) (square dx + square dy)) (flip (squares-over dx dy r))
+surely-outside-means (Box a b c d) point sound = (to, from)
+  where
+    across : Nearest a c (point .x)
+    across = nearest a c (point .x) (sound .0)
+
+    up : Nearest b d (point .y)
+    up = nearest b d (point .y) (sound .1)
+
+    to : ltb (point .error * point .error) (beyond a c (point .x) * beyond a c (point .x) + beyond b d (point .y) * beyond b d (point .y)) ≡ true → SurelyOutside (Box a b c d) point
+    to test x′ y′ within =
+        squares-over (point .x -ℤ x′) (point .y -ℤ y′) (point .error) .1
+        (let less = ltb-true (point .error * point .error) (beyond a c (point .x) * beyond a c (point .x) + beyond b d (point .y) * beyond b d (point .y)) test in
+        let dx = beyond-nearest a c (point .x) x′ (within .0 .0) (within .0 .1) in
+        let dy = beyond-nearest b d (point .y) y′ (within .1 .0) (within .1 .1) in
+        omega (arith, mul-le-mul dx dx, mul-le-mul dy dy))
+
+    from : SurelyOutside (Box a b c d) point → ltb (point .error * point .error) (beyond a c (point .x) * beyond a c (point .x) + beyond b d (point .y) * beyond b d (point .y)) ≡ true
+    from outside =
+        lt-ltb (point .error * point .error) (beyond a c (point .x) * beyond a c (point .x) + beyond b d (point .y) * beyond b d (point .y))
+        (rw (across .far, up .far) at (squares-over (point .x -ℤ across .z′) (point .y -ℤ up .z′) (point .error) .0 (outside (across .z′) (up .z′) ((across .from, across .to), (up .from, up .to)))))
+
+-- ---- an accepted shape and a point in range
+
+module _ (shape : Shape) (point : Point) (accepted : AcceptedShape shape) (ranged : RangedPoint point) where
+  decided : locate shape (Known point) ≡ outcomeOf (surelyInside shape point) (surelyOutside shape point)
   unfolding locate
   decided =
-      simp (shape-range-means shape .1 (accepted .0), shape-sound-means shape .1 (accepted .1), point-means point .1 grid)
+      simp (shape-range-means shape .1 (accepted .0), shape-sound-means shape .1 (accepted .1), point-means point .1 ranged)
 
-  -- A point is inside exactly where it is in the circle or the box.
-  pub located-means : (locate shape (Known point) ≡ Inside) ↔ Within shape point
-  located-means = rw decided (Iff·trans (inside-by (contains shape point)) (within-means shape point))
-
-  -- A point on the grid is inside or outside.
-  pub inside-or-outside : (locate shape (Known point) ≡ Inside) ⊎ (locate shape (Known point) ≡ Outside)
-  inside-or-outside = rw decided (either (contains shape point))
+  -- The three outcomes, each with what the request says of it.
+  pub three-outcomes :
+      ((locate shape (Known point) ≡ Inside) × SurelyInside shape point)
+      ⊎ (((locate shape (Known point) ≡ Outside) × SurelyOutside shape point)
+      ⊎ ((locate shape (Known point) ≡ Unsure) × ((SurelyInside shape point → ⊥) × (SurelyOutside shape point → ⊥))))
+  three-outcomes = by-tests (surelyInside shape point) (surelyOutside shape point) refl refl
     where
-      either : (b : Bool) → (insideOrOutside b ≡ Inside) ⊎ (insideOrOutside b ≡ Outside)
-      either true = inl refl
-      either false = inr refl
+      inside : (surelyInside shape point ≡ true) ↔ SurelyInside shape point
+      inside = surely-inside-means shape point
 
-  -- Outside is the opposite of inside.
-  pub outside-is-opposite : (locate shape (Known point) ≡ Outside) ↔ (locate shape (Known point) ≡ Inside → ⊥)
-  outside-is-opposite = (λ o i. true≢false (ap isInside (sym i ∙ o)), λ n. ⊎-elim (λ i. absurd (n i)) (λ o. o) inside-or-outside)
+      outside : (surelyOutside shape point ≡ true) ↔ SurelyOutside shape point
+      outside = surely-outside-means shape point (accepted .1)
+
+      by-tests : (i o : Bool) → surelyInside shape point ≡ i → surelyOutside shape point ≡ o →
+          ((locate shape (Known point) ≡ Inside) × SurelyInside shape point)
+          ⊎ (((locate shape (Known point) ≡ Outside) × SurelyOutside shape point)
+          ⊎ ((locate shape (Known point) ≡ Unsure) × ((SurelyInside shape point → ⊥) × (SurelyOutside shape point → ⊥))))
+      by-tests true o ei eo = inl (decided ∙ rw ei, inside .0 ei)
+      by-tests false true ei eo = inr (inl (decided ∙ rw (ei, eo), outside .0 eo))
+      by-tests false false ei eo =
+          inr (inr (decided ∙ rw (ei, eo), (λ h. true≢false (sym (inside .1 h) ∙ ei), λ h. true≢false (sym (outside .1 h) ∙ eo))))
 
 -- ---- every shape and position
 
@@ -136,6 +164,7 @@ inside-located shape position = by-outcome (locate shape position)
     by-outcome : (outcome : Outcome) → (isInside outcome ≡ true) ↔ (outcome ≡ Inside)
     by-outcome Inside = (λ e. refl, λ e. refl)
     by-outcome Outside = (λ e. absurd (false≢true e), λ e. cc)
+    by-outcome Unsure = (λ e. absurd (false≢true e), λ e. cc)
     by-outcome Neither = (λ e. absurd (false≢true e), λ e. cc)
 
 -- and on the outer side exactly where it is located outside.
@@ -146,6 +175,7 @@ outside-located shape position = by-outcome (locate shape position)
     by-outcome : (outcome : Outcome) → (isOutside outcome ≡ true) ↔ (outcome ≡ Outside)
     by-outcome Inside = (λ e. absurd (false≢true e), λ e. cc)
     by-outcome Outside = (λ e. refl, λ e. refl)
+    by-outcome Unsure = (λ e. absurd (false≢true e), λ e. cc)
     by-outcome Neither = (λ e. absurd (false≢true e), λ e. cc)
 
 -- No position is on both sides of a shape.
@@ -159,64 +189,53 @@ unfolding sideHolds locate
 unknown-neither (side.Inside shape) = refl
 unknown-neither (side.Outside shape) = refl
 
-refused : (shape : Shape) (point : Point) → (locate shape (Known point) ≡ Neither) ↔ (AcceptedShape shape × OnGrid point → ⊥)
+-- A position that is unsure is on neither side.
+pub unsure-neither : (shape : Shape) (position : Position) → locate shape position ≡ Unsure → (sideHolds (side.Inside shape) position ≡ false) × (sideHolds (side.Outside shape) position ≡ false)
+unfolding sideHolds
+unsure-neither shape position e = (rw e, rw e)
+
+usable-means : (shape : Shape) (point : Point) → ((shapeInRange shape && shapeSound shape) && pointInRange point ≡ true) ↔ (AcceptedShape shape × RangedPoint point)
+usable-means shape point =
+    both-mean (shapeInRange shape && shapeSound shape) (pointInRange point) (both-mean (shapeInRange shape) (shapeSound shape) (shape-range-means shape) (shape-sound-means shape)) (point-means point)
+
+never-neither : (inside outside : Bool) → outcomeOf inside outside ≡ Neither → ⊥
+never-neither true outside e = let z : _≡_ {A = ℕ} 0 1 = cc in omega arith
+never-neither false true e = let z : _≡_ {A = ℕ} 0 1 = cc in omega arith
+never-neither false false e = let z : _≡_ {A = ℕ} 0 1 = cc in omega arith
+
+refused : (shape : Shape) (point : Point) → (locate shape (Known point) ≡ Neither) ↔ (AcceptedShape shape × RangedPoint point → ⊥)
 unfolding locate
 refused shape point = (
-  λ e h. ⊎-elim (λ i. true≢false (ap isInside (sym i ∙ e))) (λ o. true≢false (ap isOutside (sym o ∙ e))) (inside-or-outside shape point (h .0) (h .1)),
-  λ n. unless (shapeInRange shape) (shapeSound shape) (pointInRange point) (insideOrOutside (contains shape point)) (λ h. n ((shape-range-means shape .0 (h .0 .0), shape-sound-means shape .0 (h .0 .1)), point-means point .0 (h .1))),
+  λ e h. never-neither (surelyInside shape point) (surelyOutside shape point) (sym (decided shape point (h .0) (h .1)) ∙ e),
+  λ n. unless ((shapeInRange shape && shapeSound shape) && pointInRange point) (outcomeOf (surelyInside shape point) (surelyOutside shape point)) (λ h. n (usable-means shape point .0 h)),
 )
   where
-    unless : (a b c : Bool) (outcome : Outcome) → (((a ≡ true) × (b ≡ true)) × (c ≡ true) → ⊥) → cond ((a && b) && c) outcome Neither ≡ Neither
-    unless true true true outcome n = absurd (n ((refl, refl), refl))
-    unless true true false outcome n = refl
-    unless true false c outcome n = refl
-    unless false b c outcome n = refl
+    unless : (usable : Bool) (outcome : Outcome) → (usable ≡ true → ⊥) → cond usable outcome Neither ≡ Neither
+    unless true outcome n = absurd (n refl)
+    unless false outcome n = refl
 
--- Neither inside nor outside: exactly an unknown position, one off the grid, and any position of a refused shape.
-pub neither-means : (shape : Shape) (position : Position) → (locate shape position ≡ Neither) ↔ ((position ≡ Unknown) ⊎ ((point : Point) × (position ≡ Known point) × (AcceptedShape shape × OnGrid point → ⊥)))
+-- Neither inside nor outside nor unsure: exactly an unknown position, one with a number out of range, and any position of a refused shape.
+pub neither-means : (shape : Shape) (position : Position) → (locate shape position ≡ Neither) ↔ ((position ≡ Unknown) ⊎ ((point : Point) × (position ≡ Known point) × (AcceptedShape shape × RangedPoint point → ⊥)))
 unfolding locate
 neither-means shape Unknown = (λ e. inl refl, λ h. refl)
 neither-means shape (Known point) =
     (λ e. inr (point, refl, refused shape point .0 e), ⊎-elim (λ e. absurd (true≢false (cc))) (λ h. ap (locate shape) (h .1) ∙ refused shape (h .0) .1 (h .2)))
 
--- ---- the sides
-
--- what the two sides test of a point that is known: `usable` where neither it nor the shape is refused
-inside-tests : (usable within : Bool) → (isInside (cond usable (insideOrOutside within) Neither) ≡ true) ↔ ((usable ≡ true) × (within ≡ true))
-inside-tests true true = (λ e. (refl, refl), λ h. refl)
-inside-tests true false = (λ e. absurd (false≢true e), λ h. h .1)
-inside-tests false within = (λ e. absurd (false≢true e), λ h. h .0)
-
-outside-tests : (usable within : Bool) → (isOutside (cond usable (insideOrOutside within) Neither) ≡ true) ↔ ((usable ≡ true) × (within ≡ true → ⊥))
-outside-tests true true = (λ e. absurd (false≢true e), λ h. absurd (h .1 refl))
-outside-tests true false = (λ e. (refl, false≢true), λ h. refl)
-outside-tests false within = (λ e. absurd (false≢true e), λ h. h .0)
-
-usable-means : (shape : Shape) (point : Point) → ((shapeInRange shape && shapeSound shape) && pointInRange point ≡ true) ↔ (AcceptedShape shape × OnGrid point)
-usable-means shape point =
-    both-mean (shapeInRange shape && shapeSound shape) (pointInRange point) (both-mean (shapeInRange shape) (shapeSound shape) (shape-range-means shape) (shape-sound-means shape)) (point-means point)
+-- A known point has another outcome exactly where the shape is accepted, the point in range, and that outcome's own.
+pub known-means : (shape : Shape) (point : Point) (outcome : Outcome) (Says : Type 0) → (outcome ≡ Neither → ⊥) →
+    (AcceptedShape shape → RangedPoint point → (locate shape (Known point) ≡ outcome) ↔ Says) →
+    (locate shape (Known point) ≡ outcome) ↔ ((AcceptedShape shape × RangedPoint point) × Says)
+unfolding locate
+known-means shape point outcome Says other means =
+    (λ e. by-test ((shapeInRange shape && shapeSound shape) && pointInRange point) refl e, λ h. means (h .0 .0) (h .0 .1) .1 (h .1))
+  where
+    by-test : (usable : Bool) → ((shapeInRange shape && shapeSound shape) && pointInRange point) ≡ usable → locate shape (Known point) ≡ outcome → (AcceptedShape shape × RangedPoint point) × Says
+    by-test true test e = let both = usable-means shape point .0 test in (both, means (both .0) (both .1) .0 e)
+    by-test false test e = absurd (other (sym e ∙ rw test))
 
 -- What holds of a position on a side: it is a known point of which the side says so.
-known-point : (which : Side) (Says : Point → Type 0) → ((point : Point) → (sideHolds which (Known point) ≡ true) ↔ Says point) → (position : Position) → (sideHolds which position ≡ true) ↔ ((point : Point) × (position ≡ Known point) × Says point)
+pub known-point : (which : Side) (Says : Point → Type 0) → ((point : Point) → (sideHolds which (Known point) ≡ true) ↔ Says point) → (position : Position) → (sideHolds which position ≡ true) ↔ ((point : Point) × (position ≡ Known point) × Says point)
 known-point which Says at-point Unknown =
     (λ e. absurd (false≢true (sym (unknown-neither which) ∙ e)), λ h. let e : Unknown ≡ Known (h .0) = h .1 in cc)
 known-point which Says at-point (Known point) =
     (λ e. (point, refl, at-point point .0 e), λ h. ap (sideHolds which) (h .1) ∙ at-point (h .0) .1 (h .2))
-
--- `inside (shape)` holds of a position exactly where it is a known point on the grid that is within the shape, which 11 and 14 do not refuse.
-pub inside-means : (shape : Shape) (position : Position) →
-    (sideHolds (side.Inside shape) position ≡ true) ↔
-    ((point : Point) × (position ≡ Known point) × ((AcceptedShape shape × OnGrid point) × Within shape point))
-unfolding sideHolds locate
-inside-means shape =
-    known-point (side.Inside shape) (λ point. (AcceptedShape shape × OnGrid point) × Within shape point)
-    (λ point. Iff·trans (inside-tests ((shapeInRange shape && shapeSound shape) && pointInRange point) (contains shape point)) (Iff·and (usable-means shape point) (within-means shape point)))
-
--- `outside (shape)` holds of one exactly where it is such a point that is not within the shape.
-pub outside-means : (shape : Shape) (position : Position) →
-    (sideHolds (side.Outside shape) position ≡ true) ↔
-    ((point : Point) × (position ≡ Known point) × ((AcceptedShape shape × OnGrid point) × (Within shape point → ⊥)))
-unfolding sideHolds locate
-outside-means shape =
-    known-point (side.Outside shape) (λ point. (AcceptedShape shape × OnGrid point) × (Within shape point → ⊥))
-    (λ point. Iff·trans (outside-tests ((shapeInRange shape && shapeSound shape) && pointInRange point) (contains shape point)) (Iff·and (usable-means shape point) (Iff·not (within-means shape point))))

@@ -1,13 +1,16 @@
-// The places of document 01: where a position lies, in whole metres on the farm grid.
+// The places of document 01: where a position lies, in whole metres on the farm grid, known to an error or exactly.
 ghost use mathlib.Core.Path.{_≡_};
+ghost use mathlib.Core.Bool.{true, _&&_};
 ghost use lib.IntN.{natAbs, _-ℤ_};
 ghost use lib.Dec.{leb};
 ghost use Prim.Native.Nat.{_+_, _*_, _<_};
-ghost use Rattle.places.specs.Places.{inCircle, inBox, contains, onGrid, pointInRange, positionInRange, shapeInRange, shapeSound, shapeOf, locate, isInside, isOutside, sideHolds};
+ghost use Rattle.places.specs.Places.{insideCircle, outsideCircle, withinBy, insideBox, beyond, outsideBox, surelyInside, surelyOutside, onGrid, pointInRange, positionInRange, shapeInRange, shapeSound, shapeOf, locate, isInside, isOutside, sideHolds};
 
+// A point as it was reported: the true one is at most `error` metres away, and 0 stands for none reported.
 pub struct Point {
     pub x: i32,
     pub y: i32,
+    pub error: u32,
 }
 
 pub enum Position {
@@ -36,10 +39,11 @@ pub enum Side {
     Outside(Shape),
 }
 
-// Where a position lies: an unknown one is neither inside nor outside.
+// Where a position lies: an unknown one is neither inside nor outside, and of a known one its error may leave it unsure.
 pub enum Outcome {
     Inside,
     Outside,
+    Unsure,
     Neither,
 }
 
@@ -49,11 +53,13 @@ impl Point {
 
     pub const LAST: i64 = 1_000_000;
 
-    // Both coordinates are on the grid.
+    pub const LAST_ERROR: u32 = 1000;
+
+    // Both coordinates are on the grid, and the error is in its range.
     pub fn in_range(self) -> bool
         ensures { λ r. ⌜ r ≡ pointInRange self ⌝ }
     {
-        on_grid(self.x as i64) & on_grid(self.y as i64)
+        both_on_grid(self.x, self.y) & (self.error <= Point::LAST_ERROR)
     }
 }
 
@@ -78,19 +84,14 @@ impl Shape {
     {
         match self {
             Shape::Circle { x, y, radius } => {
-                let center = Point { x, y };
-                center.in_range() & ((1 <= radius) & (radius <= Shape::LAST_RADIUS))
+                both_on_grid(x, y) & ((1 <= radius) & (radius <= Shape::LAST_RADIUS))
             }
             Shape::Box {
                 left,
                 bottom,
                 right,
                 top,
-            } => {
-                let lowest = Point { x: left, y: bottom };
-                let highest = Point { x: right, y: top };
-                lowest.in_range() & highest.in_range()
-            }
+            } => both_on_grid(left, bottom) & both_on_grid(right, top),
         }
     }
 
@@ -126,24 +127,43 @@ impl Shape {
         if !point.in_range() {
             return Outcome::Neither;
         }
-        if self.contains(point) {
+        if self.is_surely_inside(point) {
             return Outcome::Inside;
         }
-        Outcome::Outside
+        if self.is_surely_outside(point) {
+            return Outcome::Outside;
+        }
+        Outcome::Unsure
     }
 
-    // The point is within the shape, its edge included.
-    fn contains(self, point: Point) -> bool
-        ensures { λ r. ⌜ r ≡ contains self point ⌝ }
+    // The point is within the shape, its edge included, wherever in its error it truly is.
+    fn is_surely_inside(self, point: Point) -> bool
+        ensures { λ r. ⌜ r ≡ surelyInside self point ⌝ }
     {
         match self {
-            Shape::Circle { x, y, radius } => in_circle(x, y, radius, point),
+            Shape::Circle { x, y, radius } => is_inside_circle(x, y, radius, point),
             Shape::Box {
                 left,
                 bottom,
                 right,
                 top,
-            } => in_box(left, bottom, right, top, point),
+            } => is_inside_box(left, bottom, right, top, point),
+        }
+    }
+
+    // The point is not within the shape, wherever in its error it truly is.
+    fn is_surely_outside(self, point: Point) -> bool
+        requires { ⌜ (shapeInRange self ≡ true) × (pointInRange point ≡ true) ⌝ }
+        ensures { λ r. ⌜ r ≡ surelyOutside self point ⌝ }
+    {
+        match self {
+            Shape::Circle { x, y, radius } => is_outside_circle(x, y, radius, point),
+            Shape::Box {
+                left,
+                bottom,
+                right,
+                top,
+            } => is_outside_box(left, bottom, right, top, point),
         }
     }
 }
@@ -176,6 +196,7 @@ impl Outcome {
         match self {
             Outcome::Inside => true,
             Outcome::Outside => false,
+            Outcome::Unsure => false,
             Outcome::Neither => false,
         }
     }
@@ -186,25 +207,77 @@ impl Outcome {
         match self {
             Outcome::Inside => false,
             Outcome::Outside => true,
+            Outcome::Unsure => false,
             Outcome::Neither => false,
         }
     }
 }
 
-// A circle's edge belongs to it.
-fn in_circle(x: i32, y: i32, radius: u32, point: Point) -> bool
-    ensures { λ r. ⌜ r ≡ inCircle x y radius point ⌝ }
+// The error is at most the radius, and the point no more than what is left of it from the centre.
+fn is_inside_circle(x: i32, y: i32, radius: u32, point: Point) -> bool
+    ensures { λ r. ⌜ r ≡ insideCircle x y radius point ⌝ }
 {
-    near(gap(point.x, x), gap(point.y, y), radius as u64)
+    let error = point.error;
+    if radius < error {
+        return false;
+    }
+    near(gap(point.x, x), gap(point.y, y), (radius - error) as u64)
 }
 
-// A box's sides belong to it.
-fn in_box(left: i32, bottom: i32, right: i32, top: i32, point: Point) -> bool
-    ensures { λ r. ⌜ r ≡ inBox left bottom right top point ⌝ }
+// The point is more than the radius and the error from the centre.
+fn is_outside_circle(x: i32, y: i32, radius: u32, point: Point) -> bool
+    requires { ⌜ (radius < 100001) × (pointInRange point ≡ true) ⌝ }
+    ensures { λ r. ⌜ r ≡ outsideCircle x y radius point ⌝ }
 {
-    let x = point.x;
-    let y = point.y;
-    ((left <= x) & (x <= right)) & ((bottom <= y) & (y <= top))
+    let error = point.error;
+    !near(gap(point.x, x), gap(point.y, y), (radius + error) as u64)
+}
+
+// The point is its error or more within all four sides.
+fn is_inside_box(left: i32, bottom: i32, right: i32, top: i32, point: Point) -> bool
+    ensures { λ r. ⌜ r ≡ insideBox left bottom right top point ⌝ }
+{
+    within_by(point.error, left, right, point.x) & within_by(point.error, bottom, top, point.y)
+}
+
+// The point is more than its error from the box.
+fn is_outside_box(left: i32, bottom: i32, right: i32, top: i32, point: Point) -> bool
+    ensures { λ r. ⌜ r ≡ outsideBox left bottom right top point ⌝ }
+{
+    !near(
+        beyond(left, right, point.x),
+        beyond(bottom, top, point.y),
+        point.error as u64,
+    )
+}
+
+// A coordinate is so much or more within two sides.
+fn within_by(error: u32, low: i32, high: i32, z: i32) -> bool
+    ensures { λ r. ⌜ r ≡ withinBy error low high z ⌝ }
+{
+    let above_low = (low <= z) & (error as u64 <= gap(z, low));
+    let below_high = (z <= high) & (error as u64 <= gap(high, z));
+    above_low & below_high
+}
+
+// How far a coordinate lies beyond two sides: 0 between them.
+fn beyond(low: i32, high: i32, z: i32) -> u64
+    ensures { λ r. ⌜ r ≡ beyond low high z ⌝ }
+{
+    if z < low {
+        return gap(low, z);
+    }
+    if high < z {
+        return gap(z, high);
+    }
+    0
+}
+
+// Both coordinates are on the grid.
+fn both_on_grid(x: i32, y: i32) -> bool
+    ensures { λ r. ⌜ r ≡ (onGrid x && onGrid y) ⌝ }
+{
+    on_grid(x as i64) & on_grid(y as i64)
 }
 
 // A coordinate of the grid.

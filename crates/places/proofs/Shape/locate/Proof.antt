@@ -4,7 +4,8 @@ use borrow.Author.Needs.{needs}
 use borrow.Author.Tests.{not-true, not-false}
 use mathlib.Core.Path.{_≡_, sym, _∙_}
 use mathlib.Core.Bool.{true, _&&_}
-use Rattle.places.specs.Places.{locate, insideOrOutside, shapeInRange, shapeSound, pointInRange}
+use Rattle.places.proofs.Orders.{left-true}
+use Rattle.places.specs.Places.{locate, outcomeOf, surelyInside, surelyOutside, shapeInRange, shapeSound, pointInRange}
 use Rattle.places.proofs.Shape.locate.Statement.{statement}
 use Rattle.places.proofs.Shape.locate.Tie as tie
 
@@ -51,22 +52,30 @@ returns-3 c =
 point-accepted : (c : tie.Else2) → pointInRange (c .before .before .before .before .before .before .position .given .0 .0) ≡ true
 point-accepted c = sym (c .before .in-range2 .ensures) ∙ not-false (c .before .in-range2 .result) (c .if2 .left)
 
-contains-requires : tie.Need-contains-requires
-contains-requires c κs = search needs
+is-surely-inside-requires : tie.Need-is-surely-inside-requires
+is-surely-inside-requires c κs = search needs
 
 -- past both tests
-decided : (c : tie.After-contains) →
+decided : (c : tie.After-is-surely-inside) →
     let start = c .before .before .before .before .before .before .before .before .before in
-    locate (start .args .self) (start .args .position) ≡ insideOrOutside (c .contains .result)
+    locate (start .args .self) (start .args .position) ≡ outcomeOf (c .is-surely-inside .result) (surelyOutside (start .args .self) (c .before .before .before .before .before .before .before .position .given .0 .0))
 unfolding locate
 decided c =
-    simp (c .before .before .before .before .before .before .before .position .given .1, shape-accepted (c .before .before .before), point-accepted (c .before), c .contains .ensures)
+    simp (c .before .before .before .before .before .before .before .position .given .1, shape-accepted (c .before .before .before), point-accepted (c .before), c .is-surely-inside .ensures)
 
 returns-4 : tie.Need-returns-4
 returns-4 c = simp (decided (c .before), c .if3 .taken)
 
+is-surely-outside-requires : tie.Need-is-surely-outside-requires
+is-surely-outside-requires c κs =
+    let self = c .before .before .before .before .before .before .before .before .before .before .args .self in
+    (left-true (shapeInRange self) (shapeSound self) (shape-accepted (c .before .before .before .before)), point-accepted (c .before .before))
+
 returns-5 : tie.Need-returns-5
-returns-5 c = simp (decided (c .before), c .if3 .left)
+returns-5 c = simp (decided (c .before .before .before), c .before .before .if3 .left, ← (c .before .is-surely-outside .ensures), c .if4 .taken)
+
+returns-6 : tie.Need-returns-6
+returns-6 c = simp (decided (c .before .before .before), c .before .before .if3 .left, ← (c .before .is-surely-outside .ensures), c .if4 .left)
 
 pub locate-spec : {M : Type 1} → statement M
 locate-spec =
@@ -80,6 +89,8 @@ locate-spec =
     returns-2
     in-range-requires-2
     returns-3
-    contains-requires
+    is-surely-inside-requires
     returns-4
-    returns-5)
+    is-surely-outside-requires
+    returns-5
+    returns-6)
