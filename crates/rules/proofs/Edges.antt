@@ -11,10 +11,10 @@ use Rattle.calendar.specs.Days.{weekdayOf, leapYear, yearStart, commonStart, mo
 use Rattle.calendar.specs.Terms.{fromTo, minuteFromTo, countedWeekday, atMoment, termInRange, termSound, termHolds}
 use Rattle.calendar.specs.declared.days.DayFound.{DayFound}
 use Rattle.calendar.specs.declared.days.DayFound.the-variants.{Day, NoDate}
-use Rattle.places.specs.Places.{inCircle, contains, pointInRange, shapeInRange, shapeSound, locate}
+use Rattle.places.specs.Places.{insideCircle, outsideCircle, insideBox, outsideBox, surelyInside, surelyOutside, pointInRange, shapeInRange, shapeSound, locate}
 use Rattle.places.specs.declared.Position.the-variants.{Known}
 use Rattle.places.specs.declared.Outcome.{Outcome}
-use Rattle.places.specs.declared.Outcome.the-variants.{Inside, Outside, Neither}
+use Rattle.places.specs.declared.Outcome.the-variants.{Inside, Outside, Unsure, Neither}
 use Rattle.rules.specs.Edges.{Edge, weekday, date, term, place, Says, edges, EachHolds}
 
 -- ---- what a row says, as a test
@@ -42,18 +42,26 @@ is-day NoDate day e = absurd (false≢true e)
 code : Outcome → ℕ
 code Inside = 0
 code Outside = 1
-code Neither = 2
+code Unsure = 2
+code Neither = 3
 
 same-outcome : (a b : Outcome) → eqb (code a) (code b) ≡ true → a ≡ b
 unfolding code
 same-outcome Inside Inside e = refl
 same-outcome Inside Outside e = absurd (false≢true e)
+same-outcome Inside Unsure e = absurd (false≢true e)
 same-outcome Inside Neither e = absurd (false≢true e)
 same-outcome Outside Inside e = absurd (false≢true e)
 same-outcome Outside Outside e = refl
+same-outcome Outside Unsure e = absurd (false≢true e)
 same-outcome Outside Neither e = absurd (false≢true e)
+same-outcome Unsure Inside e = absurd (false≢true e)
+same-outcome Unsure Outside e = absurd (false≢true e)
+same-outcome Unsure Unsure e = refl
+same-outcome Unsure Neither e = absurd (false≢true e)
 same-outcome Neither Inside e = absurd (false≢true e)
 same-outcome Neither Outside e = absurd (false≢true e)
+same-outcome Neither Unsure e = absurd (false≢true e)
 same-outcome Neither Neither e = refl
 
 passes : Edge → Bool
@@ -82,5 +90,5 @@ each-holds (edge ∷ rest) e = let parts = both (passes edge) (allPass rest) e i
 
 -- all starred edges hold
 pub edges-hold : EachHolds edges
-unfolding allPass passes sameBool isDay code leapYear yearStart commonStart monthStart monthEnd isDayOfMonth isDate dayNumber dayOfDate lastStarted yearOf monthOf dateIn dateOf fromTo minuteFromTo countedWeekday atMoment termInRange termSound termHolds inCircle contains pointInRange shapeInRange shapeSound locate
+unfolding allPass passes sameBool isDay code leapYear yearStart commonStart monthStart monthEnd isDayOfMonth isDate dayNumber dayOfDate lastStarted yearOf monthOf dateIn dateOf fromTo minuteFromTo countedWeekday atMoment termInRange termSound termHolds insideCircle outsideCircle insideBox outsideBox surelyInside surelyOutside pointInRange shapeInRange shapeSound locate
 edges-hold = each-holds edges refl

@@ -1,4 +1,4 @@
--- Document 01, 'Edges', with request 2026-03: the starred ones, as one table. That each row holds is `edges-hold` of proofs/Edges.antt.
+-- Document 01, 'Edges', with requests 2026-03 and 2026-04: the starred ones, as one table. That each row holds is `edges-hold` of proofs/Edges.antt.
 -- Assumes nothing.
 use mathlib.Core.Path.{_≡_}
 use mathlib.Core.Bool.{Bool, true, false}
@@ -12,11 +12,11 @@ use Rattle.calendar.specs.declared.terms.Term.{Term}
 use Rattle.calendar.specs.declared.terms.Term.the-variants.{Week, Nth}
 use Rattle.places.specs.Places.{locate}
 use Rattle.places.specs.declared.Shape.{Shape}
-use Rattle.places.specs.declared.Shape.the-variants.{Circle}
+use Rattle.places.specs.declared.Shape.the-variants.{Circle, Box}
 use Rattle.places.specs.declared.Point.{Point}
 use Rattle.places.specs.declared.Position.the-variants.{Known}
 use Rattle.places.specs.declared.Outcome.{Outcome}
-use Rattle.places.specs.declared.Outcome.the-variants.{Inside, Outside}
+use Rattle.places.specs.declared.Outcome.the-variants.{Inside, Outside, Unsure}
 
 pub data Edge : Type 0 where
   weekday : (day value : ℕ) → Edge
@@ -36,7 +36,11 @@ abbrev pub moment : ℕ → ℕ → ℕ → ℕ
 moment day hour minute = day * 86400 + hour * 3600 + minute * 60
 
 abbrev pub at : ℕ → ℕ → Point
-at x y = record { x = pos x; y = pos y }
+at x y = record { x = pos x; y = pos y; error = 0 }
+
+-- a point known to e metres
+abbrev pub around : ℕ → ℕ → ℕ → Point
+around x y e = record { x = pos x; y = pos y; error = e }
 
 abbrev pub edges : List Edge
 edges =
@@ -53,6 +57,28 @@ edges =
     -- "Circle 0 0 5: (3,4) inside, (4,4) outside."
     ∷ place (Circle (pos 0) (pos 0) 5) (at 3 4) Inside
     ∷ place (Circle (pos 0) (pos 0) 5) (at 4 4) Outside
+    -- 2026-04: "inside where e ≤ q and d² ≤ (q - e)², outside where d² > (q + e)², else unsure"
+    ∷ place (Circle (pos 0) (pos 0) 5) (around 4 0 1) Inside
+    ∷ place (Circle (pos 0) (pos 0) 5) (around 5 0 1) Unsure
+    ∷ place (Circle (pos 0) (pos 0) 5) (around 6 0 1) Unsure
+    ∷ place (Circle (pos 0) (pos 0) 5) (around 7 0 1) Outside
+    ∷ place (Circle (pos 0) (pos 0) 5) (around 3 4 1) Unsure
+    -- an error as large as the radius, and one larger
+    ∷ place (Circle (pos 0) (pos 0) 5) (around 0 0 5) Inside
+    ∷ place (Circle (pos 0) (pos 0) 5) (around 1 0 5) Unsure
+    ∷ place (Circle (pos 0) (pos 0) 5) (around 0 0 6) Unsure
+    ∷ place (Circle (pos 0) (pos 0) 5) (around 1 0 7) Unsure
+    -- 2026-04: "e or more within all four sides"; a box of 10 by 10, with room for an error of 5 and not of 6
+    ∷ place (Box (pos 0) (pos 0) (pos 10) (pos 10)) (around 1 9 1) Inside
+    ∷ place (Box (pos 0) (pos 0) (pos 10) (pos 10)) (around 1 10 1) Unsure
+    ∷ place (Box (pos 0) (pos 0) (pos 10) (pos 10)) (around 5 5 5) Inside
+    ∷ place (Box (pos 0) (pos 0) (pos 10) (pos 10)) (around 5 5 6) Unsure
+    -- 2026-04: "outside where the squared distance to the box exceeds e²": at a side, and at a corner, from which (13, 14) is 5 away
+    ∷ place (Box (pos 0) (pos 0) (pos 10) (pos 10)) (around 11 5 1) Unsure
+    ∷ place (Box (pos 0) (pos 0) (pos 10) (pos 10)) (around 12 5 1) Outside
+    ∷ place (Box (pos 0) (pos 0) (pos 10) (pos 10)) (around 13 14 5) Unsure
+    ∷ place (Box (pos 0) (pos 0) (pos 10) (pos 10)) (around 14 14 5) Outside
+    ∷ place (Box (pos 0) (pos 0) (pos 10) (pos 10)) (around 13 14 4) Outside
     -- "`week 1 5 0700 1900` on a Monday: 06:59 no, 07:00 yes, 19:00 no."; day 9655 is one
     ∷ weekday 9655 1
     ∷ term (Week 1 5 700 1900) (moment 9655 6 59) false

@@ -18,8 +18,9 @@ isTime t = leb t 3155759999
 abbrev pub ranged : Bool → Action → Action
 ranged inRange action = cond inRange action Malformed
 
-abbrev pub moveOf : ℕ → ℤ → ℤ → Action
-moveOf i x y = ranged (ltb i 32 && (onGrid x && onGrid y)) (Move i (record { x = x; y = y }))
+-- 2026-04: "`move` .. take a fourth number e, 1 to 1000; left out means 0"
+abbrev pub moveOf : ℕ → ℤ → ℤ → ℕ → Action
+moveOf i x y e = ranged (ltb i 32 && ((onGrid x && onGrid y) && leb e 1000)) (Move i (record { x = x; y = y; error = e }))
 
 -- "Users u 0 to 63, roles r 0 to 31, permissions p 0 to 31, sessions s 0 to 31, objects o 0 to 31"; kinds 0 to 14 in the table's
 -- order; numbers that a kind does not use are not looked at
@@ -35,7 +36,7 @@ actionOf step =
     (cond (eqb (step .kind) 7) (ranged (ltb (step .first) 32 && (ltb (step .second) 32 && ltb (step .third) 32)) (Access (step .first) (step .second) (step .third)))
     (cond (eqb (step .kind) 8) (ranged (ltb (step .first) 32) (Finish (step .first)))
     (cond (eqb (step .kind) 9) (ranged (ltb (step .first) 32) (Close (step .first)))
-    (cond (eqb (step .kind) 10) (moveOf (step .first) (step .x) (step .y))
+    (cond (eqb (step .kind) 10) (moveOf (step .first) (step .x) (step .y) (step .fourth))
     (cond (eqb (step .kind) 11) (ranged (ltb (step .first) 32) (Lost (step .first)))
     (cond (eqb (step .kind) 12) (ranged (isTime (step .first)) (Clock (step .first)))
     (cond (eqb (step .kind) 13) (ranged (ltb (step .first) 64 && (ltb (step .second) 64 && (ltb (step .third) 32 && isTime (step .fourth)))) (Lend (step .first) (step .second) (step .third) (step .fourth)))
@@ -46,8 +47,8 @@ actionOf step =
 abbrev pub numbered : ℕ → ℕ → ℕ → ℕ → ℕ → Step
 numbered kind first second third fourth = record { kind = kind; first = first; second = second; third = third; fourth = fourth; x = pos 0; y = pos 0 }
 
-abbrev pub moved : ℕ → ℤ → ℤ → Step
-moved session x y = record { kind = 10; first = session; second = 0; third = 0; fourth = 0; x = x; y = y }
+abbrev pub moved : ℕ → ℤ → ℤ → ℕ → Step
+moved session x y e = record { kind = 10; first = session; second = 0; third = 0; fourth = e; x = x; y = y }
 
 -- "The last three rows (close, move and lost, clock) are events."
 abbrev pub isEvent : Action → Bool

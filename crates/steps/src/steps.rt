@@ -59,7 +59,7 @@ impl Step {
     // close s
     pub const CLOSE: u64 = 9;
 
-    // move s x y
+    // move s x y e, with 0 for an e that is left out; e is the fourth number
     pub const MOVE: u64 = 10;
 
     // lost s
@@ -142,7 +142,7 @@ impl Step {
             ),
             8 => ranged(first < Step::OBJECTS, Action::Finish { object: first }),
             9 => ranged(first < Step::SESSIONS, Action::Close { session: first }),
-            10 => move_to(first, self.x, self.y),
+            10 => move_to(first, self.x, self.y, self.fourth),
             11 => ranged(first < Step::SESSIONS, Action::Lost { session: first }),
             12 => ranged(
                 self.first <= Term::LAST_TIME,
@@ -182,10 +182,11 @@ fn ranged(in_range: bool, action: Action) -> Action
     Action::Malformed
 }
 
-fn move_to(session: usize, x: i64, y: i64) -> Action
-    ensures { λ r. ⌜ r ≡ moveOf session x y ⌝ }
+fn move_to(session: usize, x: i64, y: i64, error: u64) -> Action
+    ensures { λ r. ⌜ r ≡ moveOf session x y error ⌝ }
 {
-    if !((session < Step::SESSIONS) & (on_grid(x) & on_grid(y))) {
+    let in_range = (on_grid(x) & on_grid(y)) & (error <= Point::LAST_ERROR as u64);
+    if !((session < Step::SESSIONS) & in_range) {
         return Action::Malformed;
     }
     Action::Move {
@@ -193,6 +194,7 @@ fn move_to(session: usize, x: i64, y: i64) -> Action
         point: Point {
             x: x as i32,
             y: y as i32,
+            error: error as u32,
         },
     }
 }
