@@ -3,7 +3,7 @@
 use mathlib.Core.Path.{_≡_, refl}
 use mathlib.Core.Bool.{Bool, true, false, cond, _&&_}
 use Prim.Native.Nat.{ℕ, _≤_, _<_}
-use lib.Dec.{eqb, ltb}
+use lib.Dec.{eqb, ltb, leb}
 use borrow.Author.Tests.{ltb-true, leb-true}
 use Rattle.sets.proofs.Booleans.{both}
 use Rattle.places.specs.Places.{onGrid, pointInRange}
@@ -73,7 +73,7 @@ action-ranged step =
     (of-kind step 7 _ _ _ (all-three step 32 32 32)
     (of-kind step 8 _ _ _ (ltb-true (step .first) 32)
     (of-kind step 9 _ _ _ (ltb-true (step .first) 32)
-    (of-kind step 10 _ _ _ (first-and step 32 (onGrid (step .x) && onGrid (step .y)))
+    (of-kind step 10 _ _ _ (first-and step 32 ((onGrid (step .x) && onGrid (step .y)) && leb (step .fourth) 1000))
     (of-kind step 11 _ _ _ (ltb-true (step .first) 32)
     (of-kind step 12 _ _ _ (leb-true (step .first) 3155759999)
     (of-kind step 13 _ _ _ (all-four step)

@@ -79,9 +79,9 @@ impl State {
         self.numbered(list, Step::CLOSE, session, 0, 0, 0)
     }
 
-    // move s x y
-    pub fn move_to(self, list: RuleList, session: u64, x: i64, y: i64) -> Next
-        ensures { λ r. ⌜ r ≡ stepOf list self (moved session x y) ⌝ }
+    // move s x y e, with 0 for an e that is left out
+    pub fn move_to(self, list: RuleList, session: u64, x: i64, y: i64, error: u64) -> Next
+        ensures { λ r. ⌜ r ≡ stepOf list self (moved session x y error) ⌝ }
     {
         self.step(
             list,
@@ -90,7 +90,7 @@ impl State {
                 first: session,
                 second: 0,
                 third: 0,
-                fourth: 0,
+                fourth: error,
                 x,
                 y,
             },

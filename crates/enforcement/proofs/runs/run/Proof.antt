@@ -706,7 +706,7 @@ module _ {M : Type 1} (𝓤 : URA M) (H : Heap 𝓤) (A : Atoms 𝓤) (W : Given
       -- the state is taken apart
       taken-apart : IsAdmission admitted → Sq W (Locals-with (‵ (froom AnswerL.mir l₁₃ 0)) (‵ (froom ConfigurationL.mir l₁₂ 0)) (‵ (froom word l₉ 0)) (‵ (froom NextL.mir l₈ 0)) (‵ (froom historyTy l₇ 0)) passed) (runs C Λ En mir′.t-5 (atRet En Post))
       taken-apart gp =
-          assigns ! (of-opd ! (load ! (from ! (fld ! {τ = historyTy} {d = 1424} refl (stop !))) (look-in ! 40 (sub ! 6 {τ = historyTy} {d = 1424} refl (whole !))))) (from ! (stop !)) (init ! 30 refl (history-typed (held (st₀ .history)) (held-history st₀ gs))) $
+          assigns ! (of-opd ! (load ! (from ! (fld ! {τ = historyTy} {d = 1552} refl (stop !))) (look-in ! 40 (sub ! 6 {τ = historyTy} {d = 1552} refl (whole !))))) (from ! (stop !)) (init ! 30 refl (history-typed (held (st₀ .history)) (held-history st₀ gs))) $
           rewrite ! 30 (λ (hs : List ℕ). ‵ (fat fullShare historyTy l₇ 0 (history-val hs))) (held-same (st₀ .history)) refl $
           use0 W (raw (Apart 𝓤 H A mem run .pre (to-apart 𝓤 H A mem run st₀))) (asks-apart 𝓤 H A mem run W st₀ gs) $
           calls-at ! fm (Apart 𝓤 H A mem run) known-apart (to-apart 𝓤 H A mem run st₀) (and-then ! (load ! (from ! (stop !)) (look ! 41 refl)) (no-more !)) (λ u′.

@@ -16,7 +16,7 @@ returns : tie.Need-returns
 returns c =
     let start = c .before in
     c .step .ensures .0
-    ∙ ap₂ (λ (x y : ℤ). stepOf (start .args .list) (start .args .self) (moved (start .args .session) x y)) (toZ-ofZ (start .fits .x)) (toZ-ofZ (start .fits .y))
+    ∙ ap₂ (λ (x y : ℤ). stepOf (start .args .list) (start .args .self) (moved (start .args .session) x y (start .args .error))) (toZ-ofZ (start .fits .x)) (toZ-ofZ (start .fits .y))
 
 pub move-to-spec : {M : Type 1} → statement M
 move-to-spec = tie.close (tie.spec step-requires returns)
