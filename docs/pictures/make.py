@@ -29,6 +29,7 @@ DAY = ROOT / "library/examples/day.in"
 def main():
     pictures = {
         "places.svg": places(),
+        "errors.svg": errors(),
         "week.svg": week(),
         "day.svg": day(),
         "step.svg": step(),
@@ -105,6 +106,48 @@ def grid(left, top, rule, named):
     for (x, y), side in named.items():
         parts += label_of(*place(x, y), f"{x} {y} " + ("inside" if inside[x, y] else "outside"), side)
     return parts
+
+
+ERROR = 2
+
+
+def errors():
+    in_circle = {(3, 0): "start", (4, -4): "start", (-6, 5): "end"}
+    in_box = {(1, 3): "start", (4, 6): "end", (5, 7): "start"}
+    parts = [text(24, 30, f"Every whole metre asked of the gate: is a position known to {ERROR} metres inside, outside or unsure?", size=15)]
+    parts += error_grid(24, 66, "(circle 0 0 5)", in_circle)
+    parts += error_grid(474, 66, "(box -4 -2 3 5)", in_box)
+    y = 540
+    parts += [dot(32, y - 4, True), text(44, y, "inside: all of the error circle is"), dot(264, y - 4, False), text(276, y, "outside: none of it is")]
+    parts += [unsure_dot(482, y - 4), text(494, y, "unsure, on neither side: some of it is and some is not")]
+    return picture(912, 560, f"A circle and a box, and positions known to {ERROR} metres: inside, outside, unsure", parts)
+
+
+def error_grid(left, top, shape, named):
+    """All positions around 0 0 with the error; those that are named have their error circle and a label."""
+    reach, gap = 8, 24
+    points = [(x, y) for y in range(reach, -reach - 1, -1) for x in range(-reach, reach + 1)]
+    steps = [[f"(move 0 {x} {y} {ERROR})"] for x, y in points]
+    inside = dict(zip(points, opens(f"(at 1 (inside {shape}))", steps)))
+    outside = dict(zip(points, opens(f"(at 1 (outside {shape}))", steps)))
+
+    def place(x, y):
+        return left + 8 + (x + reach) * gap, top + 36 + (reach - y) * gap
+
+    def drawn(x, y):
+        return dot(*place(x, y), inside[x, y]) if inside[x, y] or outside[x, y] else unsure_dot(*place(x, y))
+
+    parts = [text(left, top, shape, family=MONO, size=14), shape_of(f"(at 1 {shape})", place, gap)]
+    parts += [drawn(x, y) for x, y in points]
+    for (x, y), side in named.items():
+        outcome = "inside" if inside[x, y] else "outside" if outside[x, y] else "unsure"
+        parts.append(circle(*place(x, y), ERROR * gap, "none", SAND, 2))
+        parts += label_of(*place(x, y), f"{x} {y} {outcome}", side)
+    return parts
+
+
+def unsure_dot(x, y):
+    return circle(x, y, 4, SAND, SAND, 1.2)
 
 
 def label_of(x, y, words, side):

@@ -64,7 +64,8 @@
  *   pitch_gate_version() / 10000 == PITCH_GATE_VERSION / 10000 and pitch_gate_version() >= PITCH_GATE_VERSION.
  *   The texts of version 1 are read, and mean what they meant but for one: a term (week a b h k) with h > k now belongs to the
  *   day on which the shift begins. Under such a rule a state that version 1 saved may be 17. All ends that share records take
- *   the same major version.
+ *   the same major version. Version 2.1 adds (move s x y e) and (place s x y e), a position known to e metres: both are 10 to
+ *   2.0, so take 2.1 at every end before the first e is sent.
  */
 #ifndef PITCH_GATE_H
 #define PITCH_GATE_H
@@ -76,7 +77,7 @@
 extern "C" {
 #endif
 
-#define PITCH_GATE_VERSION 20000 /* 2.0.0 */
+#define PITCH_GATE_VERSION 20100 /* 2.1.0 */
 
 /* The version of the archive that is linked, as PITCH_GATE_VERSION is of this header. */
 uint64_t pitch_gate_version(void);
@@ -174,7 +175,7 @@ _Static_assert(sizeof(struct pitch_gate_report) == 32, "the library fills four n
 
 /* No accepted text is longer. */
 #define PITCH_GATE_RULES_MOST 8980   /* a rule list: 128 boxes */
-#define PITCH_GATE_STATE_MOST 997821 /* a saved state: every role assigned or lent, 32 of them lent, the longest times, users and positions */
+#define PITCH_GATE_STATE_MOST 997981 /* a saved state: every role assigned or lent, 32 of them lent, the longest times, users and positions */
 
 /* Spaces that are always long enough; for a saved state PITCH_GATE_STATE_MOST, for a rule list PITCH_GATE_RULES_MOST. */
 #define PITCH_GATE_OUTPUT_MOST 131072 /* the output of pitch_gate_respond, the answers of pitch_gate_run_steps */

@@ -20,13 +20,20 @@ pub(crate) fn with_line(state: State, form: usize, values: &[u64; 6]) -> State {
         3 => with_assigned(state, first, second as usize),
         4 => with_session(state, first, true, narrow(second)),
         5 => with_session(state, first, false, narrow(second)),
-        6 => with_place(state, first, coordinate(second), coordinate(values[2])),
+        6 => with_place(state, first, coordinate(second), coordinate(values[2]), 0),
         7 => with_active(state, first, second as usize),
         8 => with_loan(state, loan_of(values)),
         9 => with_loan_count(state, first),
         10 => shown_time(state),
         11 => shown_loan_count(state),
         12 => shown_loan(state, first),
+        19 => with_place(
+            state,
+            first,
+            coordinate(second),
+            coordinate(values[2]),
+            narrow(values[3]),
+        ),
         _ => state,
     }
 }
@@ -132,7 +139,7 @@ fn with_session(mut state: State, session: usize, is_open: bool, user: u32) -> S
     state
 }
 
-fn with_place(mut state: State, session: usize, x: i32, y: i32) -> State {
+fn with_place(mut state: State, session: usize, x: i32, y: i32, error: u32) -> State {
     if 32 <= session {
         return state;
     }
@@ -140,7 +147,7 @@ fn with_place(mut state: State, session: usize, x: i32, y: i32) -> State {
     state.sessions[session] = Session {
         is_open: old.is_open,
         user: old.user,
-        position: Position::Known(Point { x, y }),
+        position: Position::Known(Point { x, y, error }),
     };
     state
 }

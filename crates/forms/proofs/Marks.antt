@@ -30,18 +30,19 @@ of-every test (r ∷ rows) c h l =
     go true x y = x
     go false x y = y
 
--- the end of a range is within what a text can hold
-abbrev endFitsBy : Syntax → ℕ → Bool
-endFitsBy syntax.Literal high = true
-endFitsBy syntax.Number high = ltb high 10000000000
-endFitsBy syntax.Signed high = ltb high 10000000000
-endFitsBy syntax.Date high = ltb high 100000000
-endFitsBy syntax.TimeOfDay high = ltb high 10000
+-- the ends of a range are within what a text can hold
+abbrev endsFitBy : Syntax → ℕ → ℕ → Bool
+endsFitBy syntax.Literal low high = true
+endsFitBy syntax.Number low high = ltb high 10000000000
+endsFitBy syntax.Positive low high = ltb 0 low && ltb high 10000000000
+endsFitBy syntax.Signed low high = ltb high 10000000000
+endsFitBy syntax.Date low high = ltb high 100000000
+endsFitBy syntax.TimeOfDay low high = ltb high 10000
 
-abbrev endFits : Kind → Bool
-endFits kind = endFitsBy (kind .syntax) (kind .high)
+abbrev endsFit : Kind → Bool
+endsFit kind = endsFitBy (kind .syntax) (kind .low) (kind .high)
 
-ends-fit : every endFits kinds ≡ true
+ends-fit : every endsFit kinds ≡ true
 unfolding every
 ends-fit = refl
 
@@ -49,6 +50,12 @@ up-to : (low high bound v : ℕ) → ltb high bound ≡ true → (leb low v && l
 up-to low high bound v e h =
     let p = both (leb low v) (leb v high) h in
     lt-ltb v bound (omega (arith, ltb-true high bound e, leb-true v high (p .1)))
+
+positive-within : (low high v : ℕ) → (ltb 0 low && ltb high 10000000000) ≡ true → (leb low v && leb v high) ≡ true → (ltb 0 v && ltb v 10000000000) ≡ true
+positive-within low high v e h =
+    let ends = both (ltb 0 low) (ltb high 10000000000) e in
+    let p = both (leb low v) (leb v high) h in
+    rw (lt-ltb 0 v (omega (arith, ltb-true 0 low (ends .0), leb-true low v (p .0)))) (up-to low high 10000000000 v (ends .1) h)
 
 signed-within : (high v : ℕ) → high < 10000000000 → amountOf v ≤ high → (ltb v 20000000000 && not (eqb v 10000000000)) ≡ true
 unfolding amountOf
@@ -60,17 +67,18 @@ signed-within high v e h = go (ltb 10000000000 v) refl h
         rw (lt-ltb v 20000000000 (omega arith), ne-eqb v 10000000000 (λ z. omega arith))
     go false q k = rw (lt-ltb v 20000000000 (omega arith), ne-eqb v 10000000000 (λ z. omega arith))
 
-by-range : (x : Syntax) (low high v : ℕ) → endFitsBy x high ≡ true → inRangeBy x low high v ≡ true → fitsBy x v ≡ true
+by-range : (x : Syntax) (low high v : ℕ) → endsFitBy x low high ≡ true → inRangeBy x low high v ≡ true → fitsBy x v ≡ true
 unfolding inRangeBy fitsBy
 by-range syntax.Literal low high v e h = refl
 by-range syntax.Number low high v e h = up-to low high 10000000000 v e h
+by-range syntax.Positive low high v e h = positive-within low high v e h
 by-range syntax.Signed low high v e h = signed-within high v (ltb-true _ _ e) (leb-true _ _ h)
 by-range syntax.Date low high v e h = up-to low high 100000000 v e h
 by-range syntax.TimeOfDay low high v e h = up-to low high 10000 v e (both (leb low v && leb v high) (leb (v % 100) 59) h .0)
 
 pub mark-fits : (c v : ℕ) → inRange c v ≡ true → fitsBy (syntaxOf c) v ≡ true
 unfolding inRange kindOf
-mark-fits c v h = by-range (lookup kinds c .syntax) (lookup kinds c .low) (lookup kinds c .high) v (of-every endFits kinds c ends-fit refl) h
+mark-fits c v h = by-range (lookup kinds c .syntax) (lookup kinds c .low) (lookup kinds c .high) v (of-every endsFit kinds c ends-fit refl) h
 
 pub range-fits : (t ws : List ℕ) → allInRange t ws ≡ true → valuesFit t ws ≡ true
 unfolding allInRange valuesFit
@@ -108,7 +116,7 @@ same-true false false h = refl
 
 -- as the code tells them
 abbrev isMark : ℕ → Bool
-isMark c = cond (leb 97 c) (eqb c 126) (cond (ltb c 64) (member 14988222526188945408 c) (member 3892314113 (c - 64)))
+isMark c = cond (leb 97 c) (eqb c 126) (cond (ltb c 64) (member 14988222526188945408 c) (member 8187281409 (c - 64)))
 
 every-byte : testedBelow (λ c. same (isMark c) (isSlot c)) 256 ≡ true
 unfolding isSlot kindOf lookup member
@@ -124,13 +132,14 @@ module _ (c : ℕ) (byte : c < 256) where
   pub mark-low : c < 64 → member 14988222526188945408 c ≡ isSlot c
   mark-low h = rw (lt-leb 97 c (omega arith), lt-ltb c 64 h) at told
 
-  pub mark-between : 64 ≤ c → c < 97 → member 3892314113 (c - 64) ≡ isSlot c
+  pub mark-between : 64 ≤ c → c < 97 → member 8187281409 (c - 64) ≡ isSlot c
   mark-between h l = rw (lt-leb 97 c l, le-ltb c 64 h) at told
 
 -- a mark that is none of these stands for a plain number
 abbrev isNumber : Syntax → Bool
 isNumber syntax.Literal = false
 isNumber syntax.Number = true
+isNumber syntax.Positive = false
 isNumber syntax.Signed = false
 isNumber syntax.Date = false
 isNumber syntax.TimeOfDay = false
@@ -138,21 +147,22 @@ isNumber syntax.TimeOfDay = false
 number-true : (x : Syntax) → isNumber x ≡ true → syntax.Number ≡ x
 number-true syntax.Literal h = clash h refl
 number-true syntax.Number h = refl
+number-true syntax.Positive h = clash h refl
 number-true syntax.Signed h = clash h refl
 number-true syntax.Date h = clash h refl
 number-true syntax.TimeOfDay h = clash h refl
 
 abbrev isOther : ℕ → Bool
-isOther c = eqb c 43 || (eqb c 95 || (eqb c 46 || (eqb c 91 || eqb c 93)))
+isOther c = eqb c 43 || (eqb c 95 || (eqb c 46 || (eqb c 91 || (eqb c 93 || eqb c 96))))
 
 every-number : testedBelow (λ c. (not (isSlot c) || isOther c) || isNumber (syntaxOf c)) 256 ≡ true
 unfolding isSlot kindOf lookup
 every-number = refl
 
-pub number-mark : (c : ℕ) → c < 256 → isSlot c ≡ true → (c ≡ 43 → ⊥) → (c ≡ 95 → ⊥) → (c ≡ 46 → ⊥) → (c ≡ 91 → ⊥) → (c ≡ 93 → ⊥) → syntax.Number ≡ syntaxOf c
-number-mark c byte slot plus underline point left right =
+pub number-mark : (c : ℕ) → c < 256 → isSlot c ≡ true → (c ≡ 43 → ⊥) → (c ≡ 95 → ⊥) → (c ≡ 46 → ⊥) → (c ≡ 91 → ⊥) → (c ≡ 93 → ⊥) → (c ≡ 96 → ⊥) → syntax.Number ≡ syntaxOf c
+number-mark c byte slot plus underline point left right accent =
     number-true (syntaxOf c)
-    (rw (slot, ne-eqb c 43 plus, ne-eqb c 95 underline, ne-eqb c 46 point, ne-eqb c 91 left, ne-eqb c 93 right)
+    (rw (slot, ne-eqb c 43 plus, ne-eqb c 95 underline, ne-eqb c 46 point, ne-eqb c 91 left, ne-eqb c 93 right, ne-eqb c 96 accent)
     at (tested (λ c. (not (isSlot c) || isOther c) || isNumber (syntaxOf c)) 256 c every-number byte))
 
 -- a byte that is no mark has no range
@@ -160,6 +170,7 @@ literal-range : (x : Syntax) (low high v : ℕ) → isSlotSyntax x ≡ false →
 unfolding inRangeBy
 literal-range syntax.Literal low high v h = refl
 literal-range syntax.Number low high v h = clash refl h
+literal-range syntax.Positive low high v h = clash refl h
 literal-range syntax.Signed low high v h = clash refl h
 literal-range syntax.Date low high v h = clash refl h
 literal-range syntax.TimeOfDay low high v h = clash refl h

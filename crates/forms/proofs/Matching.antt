@@ -25,7 +25,7 @@ pub item-short : (c : ℕ) (s : List ℕ) → readItem c s .length ≤ length s
 unfolding readItem
 item-short c s = by-short (syntaxOf c) c s
 
-item-fits : (c : ℕ) (s : List ℕ) → fitsBy (syntaxOf c) (readItem c s .value) ≡ true
+item-fits : (c : ℕ) (s : List ℕ) → 0 < readItem c s .length → fitsBy (syntaxOf c) (readItem c s .value) ≡ true
 unfolding readItem
 item-fits c s = by-fits (syntaxOf c) c s
 
@@ -41,6 +41,7 @@ literal-by : (x : Syntax) (c v : ℕ) → isSlotSyntax x ≡ false → textBy x 
 unfolding textBy
 literal-by syntax.Literal c v h = refl
 literal-by syntax.Number c v h = clash refl h
+literal-by syntax.Positive c v h = clash refl h
 literal-by syntax.Signed c v h = clash refl h
 literal-by syntax.Date c v h = clash refl h
 literal-by syntax.TimeOfDay c v h = clash refl h
@@ -49,6 +50,7 @@ literal-fits : (x : Syntax) (v : ℕ) → isSlotSyntax x ≡ false → fitsBy x 
 unfolding fitsBy
 literal-fits syntax.Literal v h = refl
 literal-fits syntax.Number v h = clash refl h
+literal-fits syntax.Positive v h = clash refl h
 literal-fits syntax.Signed v h = clash refl h
 literal-fits syntax.Date v h = clash refl h
 literal-fits syntax.TimeOfDay v h = clash refl h
@@ -57,6 +59,7 @@ literal-read : (x : Syntax) (c : ℕ) (s : List ℕ) → isSlotSyntax x ≡ fals
 unfolding readBy
 literal-read syntax.Literal c s h = refl
 literal-read syntax.Number c s h = clash refl h
+literal-read syntax.Positive c s h = clash refl h
 literal-read syntax.Signed c s h = clash refl h
 literal-read syntax.Date c s h = clash refl h
 literal-read syntax.TimeOfDay c s h = clash refl h
@@ -98,7 +101,7 @@ sound (c ∷ t) s =
     go true p true q (matched us m) ih = λ w. (
       rw (q, append-assoc, ← drop-drop m (readItem c s .length) s)
           (item-front c s (ltb-true _ _ p) ∙ ap (λ (l : List ℕ). itemText c (readItem c s .value) ++ l) (ih w .0)),
-      rw (q, item-fits c s) (ih w .1),
+      rw (q, item-fits c s (ltb-true _ _ p)) (ih w .1),
     )
     go true p false q (matched us m) ih = λ w. (
       rw (q, append-assoc, ← drop-drop m (readItem c s .length) s, literal-text c (head (us ++ w)) q)

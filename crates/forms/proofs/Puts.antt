@@ -163,6 +163,7 @@ by-length : (x : Syntax) (c v : ℕ) → fitsBy x v ≡ true → length (textBy 
 unfolding textBy fitsBy signedOf
 by-length syntax.Literal c v h = omega arith
 by-length syntax.Number c v h = omega (arith, digits-length 9 v (ltb-true _ _ h))
+by-length syntax.Positive c v h = omega (arith, digits-length 9 v (ltb-true _ _ (both (ltb 0 v) (ltb v 10000000000) h .1)))
 by-length syntax.Signed c v h = go (ltb 10000000000 v) refl
   where
     small : v < 20000000000

@@ -8,9 +8,9 @@ use lib.ListN.{length, drop, getD, length-append, List·getD-append}
 use lib.Dec.{ltb, leb, eqb}
 use borrow.Author.Tests.{lt-ltb, le-ltb, eq-eqb, ne-eqb, ltb-true, ltb-false, eqb-true, eqb-false, not-true}
 use Rattle.sets.proofs.Booleans.{both, clash}
-use Rattle.forms.specs.Numbers.{digitsOf, signedOf, fixedOf, digitsFrom, readNumber, readSigned, readByte, readFixed, negated, valueAndLength, nothing, longer, isDigit}
-use Rattle.forms.specs.Kinds.{isSlotSyntax}
-use Rattle.forms.specs.Forms.{textBy, readBy, fitsBy}
+use Rattle.forms.specs.Numbers.{digitsOf, signedOf, fixedOf, digitsFrom, readNumber, readPositive, readSigned, readByte, readFixed, negated, valueAndLength, nothing, longer, isDigit}
+use Rattle.forms.specs.Kinds.{isSlotSyntax, syntaxOf}
+use Rattle.forms.specs.Forms.{textBy, readBy, readItem, fitsBy}
 use Rattle.forms.specs.declared.kinds.Syntax.{Syntax}
 use Rattle.forms.specs.declared.kinds.Syntax.the-variants as syntax
 use Rattle.forms.specs.declared.numbers.Number.{Number}
@@ -65,6 +65,40 @@ number-stands s h = go (readNumber s .length) refl
     go : (n : ℕ) → readNumber s .length ≡ n → 0 < readNumber s .length
     go zero e = absurd (omega (arith, number-none s e))
     go (suc n) e = omega arith
+
+-- ---- a number other than 0
+
+-- 2026-04: "a written 0 is 10 in either text": a form that asks for such a number finds none in a 0, whatever follows it
+pub zero-unread : (c : ℕ) (s : List ℕ) → syntaxOf c ≡ syntax.Positive → readItem c (48 ∷ s) ≡ nothing
+unfolding readItem readBy readPositive readNumber
+zero-unread c s e = rw e refl
+
+positive-least : (s : List ℕ) → 0 < readPositive s .length → 1 ≤ readPositive s .value
+unfolding readPositive
+positive-least s h = go (ltb 0 (readNumber s .value)) refl h
+  where
+    go : (b : Bool) → ltb 0 (readNumber s .value) ≡ b → 0 < cond b (readNumber s) nothing .length → 1 ≤ cond b (readNumber s) nothing .value
+    go true e k = ltb-true _ _ e
+    go false e k = absurd (omega arith)
+
+-- and one that it finds is at least 1
+pub positive-read : (c : ℕ) (s : List ℕ) → syntaxOf c ≡ syntax.Positive → 0 < readItem c s .length → 1 ≤ readItem c s .value
+unfolding readItem readBy
+positive-read c s e h = rw e (positive-least s (rw e at h))
+
+-- what holds of a plain number and of none holds of it
+positive-either : (P : Number → Type 0) (s : List ℕ) → P (readNumber s) → P nothing → P (readPositive s)
+unfolding readPositive
+positive-either P s p q = go (ltb 0 (readNumber s .value))
+  where
+    go : (b : Bool) → P (cond b (readNumber s) nothing)
+    go true = p
+    go false = q
+
+positive-fits : (s : List ℕ) → 0 < readPositive s .length → (ltb 0 (readPositive s .value) && ltb (readPositive s .value) 10000000000) ≡ true
+positive-fits s h =
+    let small = positive-either (λ r. r .value < 10000000000) s (number-small s) (omega arith) in
+    rw (lt-ltb 0 (readPositive s .value) (omega (arith, positive-least s h)), lt-ltb (readPositive s .value) 10000000000 small)
 
 -- ---- a number that may have a minus
 
@@ -125,18 +159,20 @@ by-short syntax.Literal c s = byte s
         go true = omega arith
         go false = omega arith
 by-short syntax.Number c s = number-short s
+by-short syntax.Positive c s = positive-either (λ r. r .length ≤ length s) s (number-short s) (omega arith)
 by-short syntax.Signed c s = signed-short s
 by-short syntax.Date c s = fixed-short 8 s
 by-short syntax.TimeOfDay c s = fixed-short 4 s
 
--- its value fits
-pub by-fits : (x : Syntax) (c : ℕ) (s : List ℕ) → fitsBy x (readBy x c s .value) ≡ true
+-- its value fits, where something is read; where nothing is, the value is 0
+pub by-fits : (x : Syntax) (c : ℕ) (s : List ℕ) → 0 < readBy x c s .length → fitsBy x (readBy x c s .value) ≡ true
 unfolding readBy fitsBy
-by-fits syntax.Literal c s = refl
-by-fits syntax.Number c s = lt-ltb _ _ (number-small s)
-by-fits syntax.Signed c s = signed-fits s
-by-fits syntax.Date c s = lt-ltb _ _ (fixed-fits 8 s (omega arith))
-by-fits syntax.TimeOfDay c s = lt-ltb _ _ (fixed-fits 4 s (omega arith))
+by-fits syntax.Literal c s h = refl
+by-fits syntax.Number c s h = lt-ltb _ _ (number-small s)
+by-fits syntax.Positive c s h = positive-fits s h
+by-fits syntax.Signed c s h = signed-fits s
+by-fits syntax.Date c s h = lt-ltb _ _ (fixed-fits 8 s (omega arith))
+by-fits syntax.TimeOfDay c s h = lt-ltb _ _ (fixed-fits 4 s (omega arith))
 
 -- the text that was read
 abbrev Front : List ℕ → Number → (ℕ → List ℕ) → Type 0
@@ -174,6 +210,7 @@ pub by-front : (x : Syntax) (c : ℕ) (s : List ℕ) → Front s (readBy x c s) 
 unfolding readBy textBy
 by-front syntax.Literal c s = byte-front c s
 by-front syntax.Number c s = number-front s
+by-front syntax.Positive c s = positive-either (λ r. Front s r digitsOf) s (number-front s) (λ h. absurd (omega arith))
 by-front syntax.Signed c s = signed-front s
 by-front syntax.Date c s = fixed-sound 8 s
 by-front syntax.TimeOfDay c s = fixed-sound 4 s
@@ -200,6 +237,11 @@ no-minus v s =
     let d = first-digit v v (omega arith) in
     let g = List·getD-append (digitsOf v) s 0 0 (digits-pos v) in
     signed-plain (digitsOf v ++ s) (λ e. omega (arith, g, d))
+
+positive-complete : (v : ℕ) → 0 < v → v < 10000000000 → (s : List ℕ) → digitAt s ≡ false
+    → readPositive (digitsOf v ++ s) ≡ valueAndLength v (length (digitsOf v))
+unfolding readPositive
+positive-complete v p h s d = rw (number-complete v h s d, lt-ltb 0 v p)
 
 signed-complete : (v : ℕ) → v < 20000000000 → (v ≡ 10000000000 → ⊥) → (s : List ℕ) → digitAt s ≡ false
     → readSigned (signedOf v ++ s) ≡ valueAndLength v (length (signedOf v))
@@ -238,6 +280,9 @@ unfolding readBy textBy fitsBy
 by-back syntax.Literal c v s h d =
     subst⁻¹ (Got syntax.Literal c v) (byte-back c s) (record { long = refl; value = λ k. clash k refl })
 by-back syntax.Number c v s h d = got syntax.Number c v _ (number-complete v (ltb-true _ _ h) s (d refl))
+by-back syntax.Positive c v s h d =
+    let p = both (ltb 0 v) (ltb v 10000000000) h in
+    got syntax.Positive c v _ (positive-complete v (ltb-true _ _ (p .0)) (ltb-true _ _ (p .1)) s (d refl))
 by-back syntax.Signed c v s h d =
     let p = both (ltb v 20000000000) (not (eqb v 10000000000)) h in
     got syntax.Signed c v _ (signed-complete v (ltb-true _ _ (p .0)) (eqb-false v 10000000000 (not-true _ (p .1))) s (d refl))
@@ -248,6 +293,7 @@ pub by-pos : (x : Syntax) (c v : ℕ) → 0 < length (textBy x c v)
 unfolding textBy signedOf
 by-pos syntax.Literal c v = omega arith
 by-pos syntax.Number c v = digits-pos v
+by-pos syntax.Positive c v = digits-pos v
 by-pos syntax.Signed c v = go (ltb 10000000000 v)
   where
     go : (b : Bool) → 0 < length (cond b (45 ∷ digitsOf (v - 10000000000)) (digitsOf v))

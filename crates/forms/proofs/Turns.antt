@@ -11,7 +11,7 @@ use lib.Seq.{drop-cons, drop-drop, sets, take-all, take-append-seam}
 use lib.Dec.{ltb, leb, eqb}
 use borrow.Author.Tests.{lt-ltb, le-ltb, le-leb, eq-eqb, ne-eqb, ltb-true, ltb-false}
 use Rattle.sets.proofs.Booleans.{both, clash}
-use Rattle.forms.specs.Numbers.{readNumber, readSigned, readFixed, readByte, negated, digitsFrom, startsWithDigits, valueFrom, valueAndLength, nothing, longer, isDigit}
+use Rattle.forms.specs.Numbers.{readNumber, readPositive, readSigned, readFixed, readByte, negated, digitsFrom, startsWithDigits, valueFrom, valueAndLength, nothing, longer, isDigit}
 use Rattle.forms.specs.Kinds.{isSlot, inRange}
 use Rattle.forms.specs.Forms.{itemText, readItem, head, tail, left, fill, allInRange, Match, unmatched, matched, prepend, scan, scanned, into, scannedAs, notFound, takenBy, advance}
 use Rattle.forms.specs.Writing.{lastPlace, Wrote}
@@ -63,6 +63,16 @@ pub first-digit : (s : List ℕ) → 0 < length s → (getD s 0 0 ≡ 48 → ⊥
 unfolding readNumber
 first-digit [] h n e = absurd (omega arith)
 first-digit (c ∷ s) h n e = rw (ne-eqb c 48 n, e)
+
+-- ---- a number other than 0
+
+pub positive-some : {r : Number} (s : List ℕ) → r ≡ readNumber s → 0 < r .value → r ≡ readPositive s
+unfolding readPositive
+positive-some s e h = e ∙ rw (lt-ltb 0 (readNumber s .value) (rw e at h))
+
+pub positive-none : {r : Number} (s : List ℕ) → r ≡ readNumber s → r .value ≤ 0 → readPositive s ≡ nothing
+unfolding readPositive
+positive-none s e h = rw (le-ltb 0 (readNumber s .value) (rw e at h))
 
 -- ---- one byte
 

@@ -5,7 +5,7 @@ use mathlib.Core.List.{List, [], _∷_, _++_}
 use lib.ListN.{length, drop, set, replicate}
 use lib.Seq.{sets}
 use lib.Dec.{ltb, eqb}
-use Rattle.forms.specs.Numbers.{digitsOf, signedOf, fixedOf, readNumber, readSigned, readFixed, readByte}
+use Rattle.forms.specs.Numbers.{digitsOf, signedOf, fixedOf, readNumber, readPositive, readSigned, readFixed, readByte}
 use Rattle.forms.specs.Kinds.{syntaxOf, isSlot, inRange}
 use Rattle.forms.specs.declared.kinds.Syntax.{Syntax}
 use Rattle.forms.specs.declared.kinds.Syntax.the-variants as syntax
@@ -18,6 +18,7 @@ use Rattle.forms.specs.declared.scanning.Scanned.{Scanned}
 unfoldable pub textBy : Syntax → ℕ → ℕ → List ℕ
 textBy syntax.Literal c v = c ∷ []
 textBy syntax.Number c v = digitsOf v
+textBy syntax.Positive c v = digitsOf v
 textBy syntax.Signed c v = signedOf v
 textBy syntax.Date c v = fixedOf 8 v
 textBy syntax.TimeOfDay c v = fixedOf 4 v
@@ -29,6 +30,7 @@ itemText c v = textBy (syntaxOf c) c v
 unfoldable pub readBy : Syntax → ℕ → List ℕ → Number
 readBy syntax.Literal c s = readByte c s
 readBy syntax.Number c s = readNumber s
+readBy syntax.Positive c s = readPositive s
 readBy syntax.Signed c s = readSigned s
 readBy syntax.Date c s = readFixed 8 s
 readBy syntax.TimeOfDay c s = readFixed 4 s
@@ -60,10 +62,11 @@ unfoldable pub allInRange : List ℕ → List ℕ → Bool
 allInRange [] vs = true
 allInRange (c ∷ t) vs = inRange c (head vs) && allInRange t (left (isSlot c) vs)
 
--- a text can hold the value: "at most 10 digits", and a minus "never before 0"
+-- a text can hold the value: "at most 10 digits", a minus "never before 0", and 2026-04: "a written 0 is 10"
 unfoldable pub fitsBy : Syntax → ℕ → Bool
 fitsBy syntax.Literal v = true
 fitsBy syntax.Number v = ltb v 10000000000
+fitsBy syntax.Positive v = ltb 0 v && ltb v 10000000000
 fitsBy syntax.Signed v = ltb v 20000000000 && not (eqb v 10000000000)
 fitsBy syntax.Date v = ltb v 100000000
 fitsBy syntax.TimeOfDay v = ltb v 10000

@@ -7,7 +7,7 @@ use mathlib.Core.Bool.{Bool, true, false, cond, _&&_}
 use mathlib.Core.List.{List, [], _∷_}
 use lib.Dec.{ltb, leb, eqb}
 use Rattle.forms.specs.declared.kinds.Syntax.{Syntax}
-use Rattle.forms.specs.declared.kinds.Syntax.the-variants.{Literal, Number, Signed, Date, TimeOfDay}
+use Rattle.forms.specs.declared.kinds.Syntax.the-variants.{Literal, Number, Positive, Signed, Date, TimeOfDay}
 use Rattle.forms.specs.declared.kinds.Kind.{Kind}
 
 pub record Row : Type 0 where
@@ -40,6 +40,7 @@ kinds =
     ∷ row "]" TimeOfDay 1 2400  -- "k 0001 to 2400"
     ∷ row "?" Number 0 9999999999  -- any number of a step, or of an answer
     ∷ row "_" Signed 0 9999999999  -- the same, with a minus or none
+    ∷ row "`" Positive 1 1000  -- an error: 2026-04: "a fourth number e, 1 to 1000 .. a written 0 is 10"; in a step its range is the gate's to refuse
     ∷ []
 
 abbrev pub literal : Kind
@@ -59,6 +60,7 @@ syntaxOf c = kindOf c .syntax
 abbrev pub isSlotSyntax : Syntax → Bool
 isSlotSyntax Literal = false
 isSlotSyntax Number = true
+isSlotSyntax Positive = true
 isSlotSyntax Signed = true
 isSlotSyntax Date = true
 isSlotSyntax TimeOfDay = true
@@ -74,6 +76,7 @@ amountOf v = cond (ltb 10000000000 v) (v - 10000000000) v
 unfoldable pub inRangeBy : Syntax → ℕ → ℕ → ℕ → Bool
 inRangeBy Literal low high v = true
 inRangeBy Number low high v = leb low v && leb v high
+inRangeBy Positive low high v = leb low v && leb v high
 inRangeBy Signed low high v = leb (amountOf v) high
 inRangeBy Date low high v = leb low v && leb v high
 inRangeBy TimeOfDay low high v = (leb low v && leb v high) && leb (v % 100) 59

@@ -63,6 +63,10 @@ unfoldable pub readNumber : List ℕ → Number
 readNumber [] = nothing
 readNumber (c ∷ s) = cond (eqb c 48) (valueAndLength 0 1) (cond (isDigit c) (longer 1 (digitsFrom s (c - 48))) nothing)
 
+-- a number other than 0; 2026-04: "a written 0 is 10 in either text"
+unfoldable pub readPositive : List ℕ → Number
+readPositive s = cond (ltb 0 (readNumber s .value)) (readNumber s) nothing
+
 -- a minus "never before 0"
 abbrev pub negated : Number → Number
 negated r = cond (ltb 0 (r .value)) (valueAndLength (10000000000 + r .value) (1 + r .length)) nothing

@@ -9,6 +9,8 @@ pub enum Syntax {
     // A byte of the form itself.
     Literal,
     Number,
+    // A number other than 0.
+    Positive,
     Signed,
     // yyyymmdd
     Date,
@@ -23,7 +25,7 @@ pub struct Kind {
 }
 
 impl Kind {
-    // The marks before the small letters, as sets of bytes: ! # $ % & ' * + , . / < > ? and, counted from 64, @ [ ] ^ _
+    // The marks before the small letters, as sets of bytes: ! # $ % & ' * + , . / < > ? and, counted from 64, @ [ ] ^ _ `
     pub const MARKS_BELOW_64: u64 = (1 << 33)
         | (31 << 35)
         | (7 << 42)
@@ -31,7 +33,7 @@ impl Kind {
         | (1 << 60)
         | (3 << 62);
 
-    pub const MARKS_FROM_64: u64 = 1 | (1 << 27) | (7 << 29);
+    pub const MARKS_FROM_64: u64 = 1 | (1 << 27) | (15 << 29);
 }
 
 // What a byte of a form stands for.
@@ -59,6 +61,7 @@ pub(crate) fn kind_of(mark: u8) -> Kind
         b']' => ranged(Syntax::TimeOfDay, 1, 2400),
         b'?' => ranged(Syntax::Number, 0, 9_999_999_999),
         b'_' => ranged(Syntax::Signed, 0, 9_999_999_999),
+        b'`' => ranged(Syntax::Positive, 1, 1000),
         _ => ranged(Syntax::Literal, 0, 0),
     }
 }
@@ -74,6 +77,7 @@ pub(crate) fn is_in_range(mark: u8, value: u64) -> bool
     match syntax {
         Syntax::Literal => true,
         Syntax::Number => (low <= value) & (value <= high),
+        Syntax::Positive => (low <= value) & (value <= high),
         Syntax::Signed => amount(value) <= high,
         Syntax::Date => (low <= value) & (value <= high),
         Syntax::TimeOfDay => ((low <= value) & (value <= high)) & (value % 100 <= 59),
@@ -104,6 +108,7 @@ pub(crate) fn syntax_of(mark: u8) -> Syntax
         b'.' => Syntax::Date,
         b'[' => Syntax::TimeOfDay,
         b']' => Syntax::TimeOfDay,
+        b'`' => Syntax::Positive,
         _ => Syntax::Number,
     }
 }

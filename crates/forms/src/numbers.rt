@@ -1,7 +1,7 @@
 // Numbers as texts write them: plain, with a minus, or with as many digits as a date or a time of day has.
 ghost use mathlib.Core.Path.{_≡_};
 ghost use Prim.Native.Nat.{_≤_};
-ghost use Rattle.forms.specs.Numbers.{readNumber, readSigned, readFixed, readByte, isDigit, digitValue, signedValue, signedCode, coordinateOf};
+ghost use Rattle.forms.specs.Numbers.{readNumber, readPositive, readSigned, readFixed, readByte, isDigit, digitValue, signedValue, signedCode, coordinateOf};
 
 // What stands at the front of a text: its value and how many bytes it takes; 0 bytes where it does not stand there.
 pub struct Number {
@@ -42,6 +42,17 @@ pub(crate) fn read_number(text: &[u8]) -> Number
         i += 1;
     }
     Number { value, length: i }
+}
+
+// A number other than 0.
+pub(crate) fn read_positive(text: &[u8]) -> Number
+    ensures { λ r. ⌜ r ≡ readPositive (now (text .entry)) ⌝ }
+{
+    let number = read_number(text);
+    if 0 < number.value {
+        return number;
+    }
+    nothing()
 }
 
 // A number, or a minus and a number other than 0.

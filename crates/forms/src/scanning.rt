@@ -12,6 +12,7 @@ use crate::numbers::Number;
 use crate::numbers::read_byte;
 use crate::numbers::read_fixed;
 use crate::numbers::read_number;
+use crate::numbers::read_positive;
 use crate::numbers::read_signed;
 
 // The values so far, how many they are, and the bytes that they and what stands between them take.
@@ -86,6 +87,7 @@ fn read_item(mark: u8, text: &[u8]) -> Number
     match syntax {
         Syntax::Literal => read_byte(mark, text),
         Syntax::Number => read_number(text),
+        Syntax::Positive => read_positive(text),
         Syntax::Signed => read_signed(text),
         Syntax::Date => read_fixed(8, text),
         Syntax::TimeOfDay => read_fixed(4, text),

@@ -48,6 +48,7 @@ fn put_item(mark: u8, value: u64, out: &mut [u8], at: usize) -> usize
     match syntax {
         Syntax::Literal => put(mark, out, at),
         Syntax::Number => put_number(value, out, at),
+        Syntax::Positive => put_number(value, out, at),
         Syntax::Signed => put_signed(value, out, at),
         Syntax::Date => put_fixed(8, value, out, at),
         Syntax::TimeOfDay => put_fixed(4, value, out, at),

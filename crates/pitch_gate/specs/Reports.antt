@@ -15,9 +15,9 @@ use Rattle.texts.specs.declared.saved_runs.Text.{Text}
 use Rattle.texts.specs.declared.saved_runs.Text.the-variants as Text
 use Rattle.texts.specs.declared.saved_runs.Report.{Report}
 
--- 2.0.0
+-- 2.1.0
 abbrev pub version : ℕ
-version = 20000
+version = 20100
 
 -- ---- a report as numbers
 

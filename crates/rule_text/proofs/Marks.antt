@@ -11,7 +11,7 @@ use Rattle.sets.proofs.Booleans.{clash}
 use Rattle.forms.specs.Kinds.{kindOf, syntaxOf, isSlot, isSlotSyntax, inRangeBy, inRange}
 use Rattle.forms.specs.Forms.{head, tail, left, itemText, textBy, fill, allInRange, valuesIn}
 use Rattle.forms.specs.declared.kinds.Syntax.{Syntax}
-use Rattle.forms.specs.declared.kinds.Syntax.the-variants.{Literal, Number, Signed, Date, TimeOfDay}
+use Rattle.forms.specs.declared.kinds.Syntax.the-variants.{Literal, Number, Positive, Signed, Date, TimeOfDay}
 
 -- the marks of a form, in their order
 unfoldable pub marksIn : List ℕ → List ℕ
@@ -42,6 +42,7 @@ literal-in-range : (syntax : Syntax) (low high value : ℕ) → isSlotSyntax syn
 unfolding inRangeBy
 literal-in-range Literal low high value h = refl
 literal-in-range Number low high value h = clash refl h
+literal-in-range Positive low high value h = clash refl h
 literal-in-range Signed low high value h = clash refl h
 literal-in-range Date low high value h = clash refl h
 literal-in-range TimeOfDay low high value h = clash refl h
@@ -82,6 +83,7 @@ literal-text : (syntax : Syntax) (byte value other : ℕ) → isSlotSyntax synta
 unfolding textBy
 literal-text Literal byte value other h = refl
 literal-text Number byte value other h = clash refl h
+literal-text Positive byte value other h = clash refl h
 literal-text Signed byte value other h = clash refl h
 literal-text Date byte value other h = clash refl h
 literal-text TimeOfDay byte value other h = clash refl h

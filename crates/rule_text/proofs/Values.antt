@@ -15,7 +15,7 @@ use Rattle.forms.specs.Kinds.{kindOf, lookup, syntaxOf, isSlot, amountOf, inRan
 use Rattle.forms.specs.Forms.{head, tail}
 use Rattle.forms.specs.Tables.{linesIn, formAt}
 use Rattle.forms.specs.declared.kinds.Syntax.{Syntax}
-use Rattle.forms.specs.declared.kinds.Syntax.the-variants.{Literal, Number, Signed, Date, TimeOfDay}
+use Rattle.forms.specs.declared.kinds.Syntax.the-variants.{Literal, Number, Positive, Signed, Date, TimeOfDay}
 use Rattle.forms.proofs.Coordinates.{code-back}
 use Rattle.rule_text.proofs.Marks.{marksIn, valuesFor, rangesHold, padded}
 use Rattle.rule_text.specs.Lines.{ruleForms, formCount, line, lineOf, narrow, rulesWith, filler, ruleOfForm}
@@ -29,6 +29,7 @@ narrow-same value high in-range narrow-high = mod-eq-of-lt (omega arith)
 abbrev pub holdsTo : Syntax → ℕ
 holdsTo Literal = 0
 holdsTo Number = 4294967295
+holdsTo Positive = 4294967295
 holdsTo Signed = 1000000
 holdsTo Date = 4294967295
 holdsTo TimeOfDay = 4294967295
@@ -37,6 +38,7 @@ holdsTo TimeOfDay = 4294967295
 abbrev pub heldBy : Syntax → ℕ → ℕ
 heldBy Literal value = value
 heldBy Number value = narrow value
+heldBy Positive value = narrow value
 heldBy Signed value = signedCode (coordinateOf value)
 heldBy Date value = narrow value
 heldBy TimeOfDay value = narrow value
@@ -45,6 +47,7 @@ held-same : (syntax : Syntax) (low high value : ℕ) → high ≤ holdsTo syntax
 unfolding inRangeBy
 held-same Literal low high value small h = refl
 held-same Number low high value small h = narrow-same value high (leb-true value high (both (leb low value) (leb value high) h .1)) small
+held-same Positive low high value small h = narrow-same value high (leb-true value high (both (leb low value) (leb value high) h .1)) small
 held-same Signed low high value small h = code-back value (le-leb (amountOf value) 1000000 (omega (arith, leb-true (amountOf value) high h)))
 held-same Date low high value small h = narrow-same value high (leb-true value high (both (leb low value) (leb value high) h .1)) small
 held-same TimeOfDay low high value small h =

@@ -9,7 +9,7 @@ use native.Mathlib.Omega.{arith}
 use lib.Dec.{leb}
 use lib.ListN.{set, length, length-append}
 use lib.Seq.{getD-set-same, getD-set-other}
-use borrow.Author.Tests.{lt-ltb, leb-false, not-true}
+use borrow.Author.Tests.{lt-ltb, leb-false, not-true, ne-eqb}
 use Rattle.sets.specs.Sets.{with}
 use Rattle.sets.proofs.Members.{member-with-same, member-with-other}
 use Rattle.places.specs.declared.Position.{Position}
@@ -24,10 +24,10 @@ use Rattle.enforcement.specs.Reached.{Typed}
 use Rattle.enforcement.specs.declared.states.State.{State}
 use Rattle.enforcement.proofs.Loans.{loans-counted}
 use Rattle.state_text.specs.Entries.{formOf, rank, withLine, hasRoom}
-use Rattle.state_text.specs.Saving.{over, only, placeLines, sessionLines, linesOf}
+use Rattle.state_text.specs.Saving.{over, only, placeLine, placeLines, sessionLines, linesOf}
 use Rattle.state_text.specs.Causes.{Ranged}
 use Rattle.state_text.specs.declared.entries.Entry.{Entry}
-use Rattle.state_text.specs.declared.entries.Entry.the-variants.{Now, Assigned, Granted, Loan as LoanLine, Open, Place, Active, Did}
+use Rattle.state_text.specs.declared.entries.Entry.the-variants.{Now, Assigned, Granted, Loan as LoanLine, Open, Place, Active, Did, PlaceWithError}
 use Rattle.state_text.proofs.Rows.{over-zero, over-suc, over-same, over-add, over-mul, over-join, over-rows, Except, join, join-left, join-right, except-left, except-right, rows, rows-at, rows-except}
 use Rattle.state_text.proofs.LoanCells.{loanCell, keysBelow, all-cells, loan-except, loan-there, no-lines, keys-till}
 
@@ -50,12 +50,12 @@ grantedCell s r p = only (hasRole (s .granted) r p) (Granted r p)
 abbrev pub openLine : ℕ → Session → List Entry
 openLine i v = only (v .«is_open») (Open i (v .user))
 
-abbrev pub placeLine : ℕ → Session → List Entry
-placeLine i v = placeLines i (v .position)
+abbrev pub placedLine : ℕ → Session → List Entry
+placedLine i v = placeLines i (v .position)
 
 abbrev pub sessionCell : List Session → List ℕ → ℕ → ℕ → List Entry
 sessionCell sessions active i zero = openLine i (sessionAt sessions i)
-sessionCell sessions active i (suc zero) = placeLine i (sessionAt sessions i)
+sessionCell sessions active i (suc zero) = placedLine i (sessionAt sessions i)
 sessionCell sessions active i (suc (suc r)) = only (hasRole active i r) (Active i r)
 
 abbrev pub sessionCells : State → ℕ → ℕ → List Entry
@@ -228,12 +228,12 @@ module _ (s : State) (typed : Typed s) where
     where
       other : (i : ℕ) (v : Session) (j k : ℕ) → j ≢ i → sessionCells s j k ≡ sessionCells (withSessions s (set (s .sessions) i v)) j k
       other i v j zero n = ap (openLine j) (sym (session-other i j v n))
-      other i v j (suc zero) n = ap (placeLine j) (sym (session-other i j v n))
+      other i v j (suc zero) n = ap (placedLine j) (sym (session-other i j v n))
       other i v j (suc (suc k)) n = refl
 
   open-except : (i u : ℕ) → i < 32 → Except 0 (sessionCells s i) (sessionCells (withSessions s (set (s .sessions) i (session true u (positionOf s i)))) i)
   open-except i u h zero n = absurd (n refl)
-  open-except i u h (suc zero) n = ap (placeLine i) (sym (session-at i (session true u (positionOf s i)) h))
+  open-except i u h (suc zero) n = ap (placedLine i) (sym (session-at i (session true u (positionOf s i)) h))
   open-except i u h (suc (suc r)) n = refl
 
   place-except : (i : ℕ) (p : Position) → i < 32 → Except 1 (sessionCells s i) (sessionCells (withSessions s (set (s .sessions) i (session (isOpen s i) (userOf s i) p))) i)
@@ -275,16 +275,18 @@ module _ (s : State) (typed : Typed s) where
   line-other (LoanLine u v r t) h room = except-right 1 _ (except-right 2048 _ (except-right 1024 _ (except-left 131072 _ (loan-other u v r t room))))
   line-other (Open i u) h room = session-except i 0 (session true u (positionOf s i)) (h .0) (open-except i u (h .0))
   line-other (Place i x y) h room =
-      session-except i 1 (session (isOpen s i) (userOf s i) (Known (record { x = x; y = y }))) (h .0) (place-except i (Known (record { x = x; y = y })) (h .0))
+      session-except i 1 (session (isOpen s i) (userOf s i) (Known (record { x = x; y = y; error = 0 }))) (h .0) (place-except i (Known (record { x = x; y = y; error = 0 })) (h .0))
   line-other (Active i r) h room = except-right 1 _ (except-right 2048 _ (except-right 1024 _ (except-right 131072 _ (except-left 1088 _ (active-except i r (h .0))))))
   line-other (Did o p u) h room =
       let l = h .0 in
       let m = h .1 in
       except-right 1 _ (except-right 2048 _ (except-right 1024 _ (except-right 131072 _ (except-right 1088 _
       (words-except 64 64 (λ k m. Did (k / 32) (k % 32) m) (s .history) (o * 32 + p) u (omega (arith, typed .records)))))))
+  line-other (PlaceWithError i x y e) h room =
+      session-except i 1 (session (isOpen s i) (userOf s i) (Known (record { x = x; y = y; error = e }))) (h .0) (place-except i (Known (record { x = x; y = y; error = e })) (h .0))
 
   pub line-same : (e : Entry) → Ranged e → hasRoom s e ≡ true → at s (rank e) ≡ [] → at (withLine s e) (rank e) ≡ e ∷ []
-  unfolding withLine rank key
+  unfolding withLine rank key placeLine
   line-same (Now t) h room none = at-now (withLine s (Now t))
   line-same (Assigned u r) h room none =
       let l = h .0 in
@@ -299,7 +301,7 @@ module _ (s : State) (typed : Typed s) where
   line-same (Open i u) h room none =
       at-session (withLine s (Open i u)) i 0 (h .0) (omega arith) ∙ ap (openLine i) (session-at i (session true u (positionOf s i)) (h .0))
   line-same (Place i x y) h room none =
-      at-session (withLine s (Place i x y)) i 1 (h .0) (omega arith) ∙ ap (placeLine i) (session-at i (session (isOpen s i) (userOf s i) (Known (record { x = x; y = y }))) (h .0))
+      at-session (withLine s (Place i x y)) i 1 (h .0) (omega arith) ∙ ap (placedLine i) (session-at i (session (isOpen s i) (userOf s i) (Known (record { x = x; y = y; error = 0 }))) (h .0))
   line-same (Active i r) h room none =
       let l = h .0 in
       let m = h .1 in
@@ -309,3 +311,7 @@ module _ (s : State) (typed : Typed s) where
       let l = h .0 in
       let m = h .1 in
       at-did (withLine s (Did o p u)) o p u l m (h .2) ∙ rw (word-same 64 (s .history) (o * 32 + p) u (omega (arith, typed .records)) (h .2))
+  line-same (PlaceWithError i x y e) h room none =
+      at-session (withLine s (PlaceWithError i x y e)) i 1 (h .0) (omega arith)
+      ∙ ap (placedLine i) (session-at i (session (isOpen s i) (userOf s i) (Known (record { x = x; y = y; error = e }))) (h .0))
+      ∙ rw (ne-eqb e 0 (λ z. omega (arith, h .3)))

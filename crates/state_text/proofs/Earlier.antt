@@ -27,7 +27,7 @@ use Rattle.state_text.specs.Entries.{rank, inOrder, withLine, rests, isL
 use Rattle.state_text.specs.Saving.{over, loanLine, linesOf}
 use Rattle.state_text.specs.Causes.{Ranged, Disordered, RoleHeld, Lacks, loanLines, NoRoom, EachGood, stateAfter}
 use Rattle.state_text.specs.declared.entries.Entry.{Entry}
-use Rattle.state_text.specs.declared.entries.Entry.the-variants.{Now, Assigned, Granted, Loan as LoanLine, Open, Place, Active, Did}
+use Rattle.state_text.specs.declared.entries.Entry.the-variants.{Now, Assigned, Granted, Loan as LoanLine, Open, Place, Active, Did, PlaceWithError}
 use Rattle.state_text.proofs.Rows.{by-test, over-zero, over-suc}
 use Rattle.state_text.proofs.Cells.{allLines, at, at-now, at-assigned, at-loan, at-session, lines-at}
 use Rattle.state_text.proofs.Keeping.{Kept, time-accepted, open-ranged}
@@ -159,6 +159,11 @@ module _ (s : State) (kept : Kept s) where
       from : Lacks (linesOf s) (LoanLine u v r t) → (assignedRole s u r && (not (holdsRole s v r) && ltb (s .time) t)) ≡ false
       from lacks = not-so _ (λ q. against lacks (rested q))
 
+  -- a place rests on its session's line
+  unplaced : (i : ℕ) → i < 32 → (isOpen s i ≡ false) ↔ ((u : ℕ) → List·Memᴰ (Open i u) (linesOf s) → ⊥)
+  unplaced i h =
+      (λ q u m. clash (open-line i u h m .0) q, λ n. not-so (isOpen s i) (λ o. n (userOf s i) (line-open i h o)))
+
   -- 16: by the lines of the state
   lacks-lines : (e : Entry) → Ranged e → (rests s e ≡ false) ↔ Lacks (linesOf s) e
   unfolding rests
@@ -167,10 +172,7 @@ module _ (s : State) (kept : Kept s) where
   lacks-lines (Granted r p) h = (λ q. clash refl q, λ q. absurd q)
   lacks-lines (LoanLine u v r t) h = loan-lacks u v r t h
   lacks-lines (Open i u) h = (λ q. clash refl q, λ q. absurd q)
-  lacks-lines (Place i x y) h = (
-    λ q u m. clash (open-line i u (h .0) m .0) q,
-    λ n. not-so (isOpen s i) (λ o. n (userOf s i) (line-open i (h .0) o)),
-  )
+  lacks-lines (Place i x y) h = unplaced i (h .0)
   lacks-lines (Active i r) h = (
     λ q u m k.
         let o = open-line i u (h .0) m in
@@ -182,6 +184,7 @@ module _ (s : State) (kept : Kept s) where
         n (userOf s i) (line-open i (h .0) (b .0)) (held-lines (userOf s i) r (open-ranged s (kept .accepted .unrefused) i (h .0) (b .0) .0) (h .1) .0 (b .1))),
   )
   lacks-lines (Did o p u) h = (λ q. clash refl q, λ q. absurd q)
+  lacks-lines (PlaceWithError i x y e) h = unplaced i (h .0)
 
   -- 51: by the lines of the state
   no-room-lines : (e : Entry) → (hasRoom s e ≡ false) ↔ NoRoom (linesOf s) e
@@ -210,6 +213,7 @@ fresh-lacks (Open i u) h = (λ q. clash refl q, λ q. absurd q)
 fresh-lacks (Place i x y) h = (λ q u m. List·Memᴰ·not-nil m, λ n. fresh-closed i)
 fresh-lacks (Active i r) h = (λ q u m k. List·Memᴰ·not-nil m, λ n. rw (fresh-closed i))
 fresh-lacks (Did o p u) h = (λ q. clash refl q, λ q. absurd q)
+fresh-lacks (PlaceWithError i x y e) h = (λ q u m. List·Memᴰ·not-nil m, λ n. fresh-closed i)
 
 -- a line lacks what it rests on exactly where no good line before it gives that
 pub lacks-means : (es : List Entry) → GoodLines 0 fresh es → (e : Entry) → Ranged e → (rests (stateAfter fresh es) e ≡ false) ↔ Lacks es e

@@ -27,7 +27,7 @@ use Rattle.state_text.specs.Entries.{formOf, valuesOf, withLine, isLoan,
 use Rattle.state_text.specs.Causes.{Ranged}
 use Rattle.state_text.specs.Parts.{sessionOf, loanPlace, loanAt, AsStored, BeforeLoans}
 use Rattle.state_text.specs.declared.entries.Entry.{Entry}
-use Rattle.state_text.specs.declared.entries.Entry.the-variants.{Now, Assigned, Granted, Loan as LoanLine, Open, Place, Active, Did}
+use Rattle.state_text.specs.declared.entries.Entry.the-variants.{Now, Assigned, Granted, Loan as LoanLine, Open, Place, Active, Did, PlaceWithError}
 use Rattle.state_text.proofs.Cells.{loans-more}
 use Rattle.state_text.proofs.entries.Entry.{the-type}
 
@@ -51,6 +51,7 @@ fields s (Open i u) = record { time = refl; assigned = refl; granted = refl; loa
 fields s (Place i x y) = record { time = refl; assigned = refl; granted = refl; loans = refl; active = refl; history = refl }
 fields s (Active i r) = record { time = refl; assigned = refl; granted = refl; loans = refl; active = refl; history = refl }
 fields s (Did o p u) = record { time = refl; assigned = refl; granted = refl; loans = refl; active = refl; history = refl }
+fields s (PlaceWithError i x y e) = record { time = refl; assigned = refl; granted = refl; loans = refl; active = refl; history = refl }
 
 -- the variants of a line are numbered as its forms
 tag-form : (e : Entry) → tagOf the-type e ≡ formOf e
@@ -63,6 +64,7 @@ tag-form (Open i u) = refl
 tag-form (Place i x y) = refl
 tag-form (Active i r) = refl
 tag-form (Did o p u) = refl
+tag-form (PlaceWithError i x y e) = refl
 
 -- the other forms
 abbrev without : ℕ → List ℕ → List ℕ
@@ -70,7 +72,7 @@ without form [] = []
 without form (k ∷ ks) = cond (eqb k form) (without form ks) (k ∷ without form ks)
 
 abbrev others : ℕ → List ℕ
-others form = without form (0 ∷ 1 ∷ 2 ∷ 3 ∷ 4 ∷ 5 ∷ 6 ∷ 7 ∷ [])
+others form = without form (0 ∷ 1 ∷ 2 ∷ 3 ∷ 4 ∷ 5 ∷ 6 ∷ 7 ∷ 8 ∷ [])
 
 -- a line of one of them is not of the form
 pub another : (e : Entry) (form : ℕ) → T (not (hasKey (others form) form)) → OneOf (others form) (tagOf the-type e) → eqb (formOf e) form ≡ false
@@ -104,6 +106,7 @@ session-below (Open i u) h = h .0
 session-below (Place i x y) h = h .0
 session-below (Active i r) h = h .0
 session-below (Did o p u) h = omega arith
+session-below (PlaceWithError i x y e) h = h .0
 
 -- a session that is stored again leaves the sessions
 pub stored-again : (sessions : List Session) (i : ℕ) {session : Session} → sessionAt sessions i ≡ session → sessions ≡ set sessions i session
@@ -151,6 +154,7 @@ held-kept s (Open i u) before none = refl
 held-kept s (Place i x y) before none = refl
 held-kept s (Active i r) before none = refl
 held-kept s (Did o p u) before none = refl
+held-kept s (PlaceWithError i x y e) before none = refl
 
 held-more : (roles : List ℕ) (l : List Loan) (u v r t : ℕ) → heldWith roles (l ++ (loanOf u v r t ∷ [])) ≡ put 32 (heldWith roles l) v r
 unfolding heldWith

@@ -8,7 +8,7 @@ use mathlib.Core.List.{List, [], _∷_, _++_, map, append-assoc, append-nil, Lis
 use Prim.Native.Nat.{ℕ, zero, suc, _+_, _-_, _*_, _/_, _%_, _≤_, _<_}
 use native.Mathlib.Omega.{arith}
 use lib.Arith.{lt-of-le-ne}
-use lib.Dec.{ltb, eqb}
+use lib.Dec.{ltb, leb, eqb}
 use lib.ListN.{length, replicate}
 use borrow.Author.Tests.{eqb-true, eqb-false, ne-eqb, leb-true, le-leb, lt-leb, ltb-true, lt-ltb, le-ltb}
 use Rattle.sets.proofs.Booleans.{clash, both, both-true, not-so}
@@ -32,10 +32,10 @@ use Rattle.enforcement.proofs.Frame.{closed-inactive}
 use Rattle.enforcement.proofs.Kept.{same-everywhere, fresh-accepted}
 use Rattle.enforcement.proofs.Loans.{loans-ordered, loans-few, holds-means}
 use Rattle.state_text.specs.Entries.{formOf, rank, inOrder, withLine, rests, hasRoom}
-use Rattle.state_text.specs.Saving.{over, only, loanLine, placeLines, linesOf}
+use Rattle.state_text.specs.Saving.{over, only, loanLine, placeLine, placeLines, linesOf}
 use Rattle.state_text.specs.Causes.{Ranged, stateAfter}
 use Rattle.state_text.specs.declared.entries.Entry.{Entry}
-use Rattle.state_text.specs.declared.entries.Entry.the-variants.{Now, Assigned, Granted, Loan as LoanLine, Open, Place, Active, Did}
+use Rattle.state_text.specs.declared.entries.Entry.the-variants.{Now, Assigned, Granted, Loan as LoanLine, Open, Place, Active, Did, PlaceWithError}
 use Rattle.state_text.proofs.Rows.{unequal, by-test, over-zero, over-suc, over-same, over-more, span, over-span, join, join-right, rows-none, row-of, below-or-past}
 use Rattle.state_text.proofs.Cells.{allLines, nowCell, assignedCell, grantedCell, sessionCells, historyCell, at, Ended, at-now, at-assigned, at-granted, at-loan, at-session, at-did, lines-at, loans-till, line-other, line-same}
 use Rattle.state_text.proofs.Keeping.{Kept, time-accepted, closed-empty, open-ranged, position-ranged, line-kept, now-kept}
@@ -94,6 +94,7 @@ rank-small (Open i u) h = omega arith
 rank-small (Place i x y) h = omega arith
 rank-small (Active i r) h = omega arith
 rank-small (Did o p u) h = omega arith
+rank-small (PlaceWithError i x y e) h = omega arith
 
 -- a line past the last one is one line more
 module _ (s : State) (typed : Typed s) (k : ℕ) (ended : Ended k s) (e : Entry) (h : Ranged e) (l : k ≤ rank e) (room : hasRoom s e ≡ true) where
@@ -132,6 +133,7 @@ first-now (Open i u) h = absurd (omega arith)
 first-now (Place i x y) h = absurd (omega arith)
 first-now (Active i r) h = absurd (omega arith)
 first-now (Did o p u) h = absurd (omega arith)
+first-now (PlaceWithError i x y e) h = absurd (omega arith)
 
 now-room : (s : State) (t : ℕ) → hasRoom s (Now t) ≡ true
 unfolding formOf
@@ -199,11 +201,24 @@ module _ (s : State) (k : ℕ) where
   only-cell e false a r g = none a
 
   place-cell : (i : ℕ) (p : Position) → at s k ≡ placeLines i p → 1 + (2048 + (1024 + (131072 + (i * 34 + 1)))) ≡ k → i < 32 → positionInRange p ≡ true → Cell s k
-  unfolding rank positionInRange pointInRange
+  unfolding rank positionInRange pointInRange placeLine
   place-cell i Unknown a r l g = none a
-  place-cell i (Known point) a r l g =
-      let p = both (onGrid (point .x)) (onGrid (point .y)) g in
-      line (Place i (point .x) (point .y)) a r (l, p .0, p .1)
+  place-cell i (Known point) a r l g = go (eqb (point .error) 0) refl
+    where
+      parts : ((onGrid (point .x) && onGrid (point .y)) ≡ true) × (leb (point .error) 1000 ≡ true)
+      parts = both (onGrid (point .x) && onGrid (point .y)) (leb (point .error) 1000) g
+
+      grid : (onGrid (point .x) ≡ true) × (onGrid (point .y) ≡ true)
+      grid = both (onGrid (point .x)) (onGrid (point .y)) (parts .0)
+
+      some : (n : ℕ) → (n ≡ 0 → ⊥) → 1 ≤ n
+      some n h = omega arith
+
+      go : (b : Bool) → eqb (point .error) 0 ≡ b → Cell s k
+      go true e = line (Place i (point .x) (point .y)) (a ∙ rw e) r (l, grid .0, grid .1)
+      go false e =
+          line (PlaceWithError i (point .x) (point .y) (point .error)) (a ∙ rw e) r
+          (l, grid .0, grid .1, some (point .error) (eqb-false (point .error) 0 e), leb-true (point .error) 1000 (parts .1))
 
 module _ (s : State) (kept : Kept s) where
   now-cell : (k : ℕ) → k < 1 → Cell s k
@@ -382,6 +397,8 @@ module _ (s : State) (kept : Kept s) where
         let opened = open-there i (h .0) (omega arith) (active-open i r (h .0) active) in
         both-true (isOpen t i) (holdsRole t (userOf t i) r) (opened .0) (rw (opened .1, held-there (omega arith)) (kept .held i r active))
     rests-there (Did o p u) q h a = refl
+    rests-there (PlaceWithError i x y e) q h a =
+        open-there i (h .0) (omega arith) (placed-open i (h .0) (known-place i (positionOf s i) (PlaceWithError i x y e) (sym (at-session s i 1 (h .0) (omega arith)) ∙ a))) .0
 
     room-there : (e : Entry) → rank e ≡ k → Ranged e → at s (rank e) ≡ e ∷ [] → hasRoom t e ≡ true
     unfolding formOf rank key
@@ -395,6 +412,7 @@ module _ (s : State) (kept : Kept s) where
     room-there (Place i x y) q h a = refl
     room-there (Active i r) q h a = refl
     room-there (Did o p u) q h a = refl
+    room-there (PlaceWithError i x y e) q h a = refl
 
     skip : at s k ≡ [] → Begun (suc k) t
     skip e = record {

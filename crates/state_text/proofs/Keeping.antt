@@ -9,12 +9,12 @@ use native.Mathlib.Omega.{arith}
 use lib.Dec.{ltb, leb, eqb}
 use lib.ListN.{set, length-set}
 use lib.Seq.{getD-set-same, getD-set-other}
-use borrow.Author.Tests.{eqb-true, ltb-true, leb-true, lt-leb, le-ltb, not-true}
+use borrow.Author.Tests.{eqb-true, ltb-true, leb-true, le-leb, lt-leb, le-ltb, not-true}
 use Rattle.sets.specs.Sets.{with, all, isEmpty}
 use Rattle.sets.proofs.Booleans.{clash, both, both-true, right-true}
 use Rattle.sets.proofs.Bounded.{of-all}
 use Rattle.sets.proofs.Width.{with-lt}
-use Rattle.places.specs.Places.{positionInRange, pointInRange}
+use Rattle.places.specs.Places.{onGrid, positionInRange, pointInRange}
 use Rattle.places.specs.declared.Position.{Position}
 use Rattle.places.specs.declared.Position.the-variants.{Unknown, Known}
 use Rattle.rules.specs.Families.{wordAt, hasRole, closedSession, sessionAt}
@@ -37,7 +37,7 @@ use Rattle.state_text.specs.Entries.{formOf, rank, withLine, rests, hasR
 use Rattle.state_text.specs.Saving.{only}
 use Rattle.state_text.specs.Causes.{Ranged}
 use Rattle.state_text.specs.declared.entries.Entry.{Entry}
-use Rattle.state_text.specs.declared.entries.Entry.the-variants.{Now, Assigned, Granted, Loan as LoanLine, Open, Place, Active, Did}
+use Rattle.state_text.specs.declared.entries.Entry.the-variants.{Now, Assigned, Granted, Loan as LoanLine, Open, Place, Active, Did, PlaceWithError}
 use Rattle.state_text.proofs.Rows.{by-test}
 use Rattle.state_text.proofs.LoanCells.{kept-none, inserted-last}
 use Rattle.state_text.proofs.Cells.{at, Ended, at-now, at-assigned, at-granted, at-session, carries-word, loans-till}
@@ -193,7 +193,7 @@ module _ (s : State) (kept : Kept s) where
       let shut = only-none (isOpen s i) (Open i (userOf s i)) (sym (at-session s i 0 (h .0) (omega arith)) ∙ none) in
       subst⁻¹ Kept (open-line i u (h .0) shut) (by-target (step.Open i u) h (rw shut))
   line-kept (Place i x y) h ended rest room =
-      by-target (step.Move i (record { x = x; y = y })) (h .0, both-true _ _ (h .1) (h .2)) (rw rest)
+      by-target (step.Move i (record { x = x; y = y; error = 0 })) (h .0, both-true (onGrid x && onGrid y) true (both-true (onGrid x) (onGrid y) (h .1) (h .2)) refl) (rw rest)
   line-kept (Active i r) h ended rest room =
       let m : suc (suc r) < 34 = omega (arith, h .1) in
       let parts = both (isOpen s i) (holdsRole s (userOf s i) r) rest in
@@ -201,6 +201,8 @@ module _ (s : State) (kept : Kept s) where
       by-target (step.Activate i r) h
       (rw (parts .0, only-none (activeRole s i r) (Active i r) (sym (at-session s i (suc (suc r)) (h .0) m) ∙ none), parts .1))
   line-kept (Did o p u) h ended rest room = did-line o p u (h .0) (h .1)
+  line-kept (PlaceWithError i x y e) h ended rest room =
+      by-target (step.Move i (record { x = x; y = y; error = e })) (h .0, both-true (onGrid x && onGrid y) (leb e 1000) (both-true (onGrid x) (onGrid y) (h .1) (h .2)) (le-leb e 1000 (h .4))) (rw rest)
 
 -- the first line of a text
 pub now-kept : (t : ℕ) → t ≤ 3155759999 → Kept (withLine fresh (Now t))

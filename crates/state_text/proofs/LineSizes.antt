@@ -16,7 +16,7 @@ use Rattle.forms.specs.Tables.{linesIn, formAt}
 use Rattle.forms.proofs.Digits.{digits-small, digits-step}
 use Rattle.state_text.specs.Entries.{savedForms, formOf, valuesOf, lineText}
 use Rattle.state_text.specs.Parts.{width}
-use Rattle.state_text.specs.declared.entries.Entry.the-variants.{Now, Assigned, Granted, Loan, Open, Place, Active, Did}
+use Rattle.state_text.specs.declared.entries.Entry.the-variants.{Now, Assigned, Granted, Loan, Open, Place, Active, Did, PlaceWithError}
 
 -- ---- with any numbers
 
@@ -44,6 +44,10 @@ module _ where
   pub place-bytes : (i : ℕ) (x y : ℤ) → length (lineText (Place i x y)) ≡ 11 + (length (digitsOf i) + (length (signedOf (signedCode x)) + length (signedOf (signedCode y))))
   unfolding lineText formOf valuesOf fill itemText textBy formAt linesIn savedForms isSlot kindOf lookup
   place-bytes i x y = simp length-append (omega arith)
+
+  pub error-bytes : (i : ℕ) (x y : ℤ) (e : ℕ) → length (lineText (PlaceWithError i x y e)) ≡ 12 + (length (digitsOf i) + (length (signedOf (signedCode x)) + (length (signedOf (signedCode y)) + length (digitsOf e))))
+  unfolding lineText formOf valuesOf fill itemText textBy formAt linesIn savedForms isSlot kindOf lookup
+  error-bytes i x y e = simp length-append (omega arith)
 
   pub active-bytes : (i r : ℕ) → length (lineText (Active i r)) ≡ 11 + (length (digitsOf i) + length (digitsOf r))
   unfolding lineText formOf valuesOf fill itemText textBy formAt linesIn savedForms isSlot kindOf lookup

@@ -23,14 +23,14 @@ use Rattle.state_text.specs.declared.reading.Parsed.{Parsed}
 use Rattle.forms.proofs.Finding.{Hits, found-hits, found-written, found-none}
 use Rattle.forms.proofs.Marks.{range-fits}
 use Rattle.state_text.proofs.Rows.{unequal}
-use Rattle.state_text.proofs.Values.{forms-distinct, eight-forms, form-small, ranged-values, values-back, entry-back, values-say}
+use Rattle.state_text.proofs.Values.{forms-distinct, nine-forms, form-small, ranged-values, values-back, entry-back, values-say}
 
-below-all : (k : ℕ) → k < 8 → k < length (linesIn savedForms)
-below-all k h = omega (arith, eight-forms)
+below-all : (k : ℕ) → k < 9 → k < length (linesIn savedForms)
+below-all k h = omega (arith, nine-forms)
 
 -- ---- a form with values that a text can hold is found
 
-module _ (k : ℕ) (v more : List ℕ) (l : k < 8) (fit : valuesFit (formAt savedForms k) v ≡ true) where
+module _ (k : ℕ) (v more : List ℕ) (l : k < 9) (fit : valuesFit (formAt savedForms k) v ≡ true) where
   form-found : readLine (fill (formAt savedForms k) v ++ more) ≡
       lineAfter (record { form = k; values = sets (replicate 6 0) 0 (valuesIn (formAt savedForms k) v); length = length (fill (formAt savedForms k) v) })
   unfolding readLine
@@ -43,27 +43,27 @@ pub read-line : (e : Entry) (more : List ℕ) → Ranged e → readLine (lineTex
 unfolding lineText lineAfter
 read-line e more h =
     form-found (formOf e) (valuesOf e) more (form-small e) (line-fits e h)
-    ∙ rw (values-back e, lt-ltb (formOf e) 8 (form-small e), ranged-values e h, entry-back e h)
+    ∙ rw (values-back e, lt-ltb (formOf e) 9 (form-small e), ranged-values e h, entry-back e h)
 
 -- ---- as the code reads a line
 
 module _ (text : List ℕ) (f : Found) (e : f ≡ found savedForms text) where
-  pub line-none : 8 ≤ f .form → Bad 10 ≡ readLine text
+  pub line-none : 9 ≤ f .form → Bad 10 ≡ readLine text
   unfolding readLine lineAfter
-  line-none h = rw (← e, le-ltb (f .form) 8 h)
+  line-none h = rw (← e, le-ltb (f .form) 9 h)
 
-  pub line-outside : f .form < 8 → allInRange (formAt savedForms (f .form)) (f .values) ≡ false → Bad 11 ≡ readLine text
+  pub line-outside : f .form < 9 → allInRange (formAt savedForms (f .form)) (f .values) ≡ false → Bad 11 ≡ readLine text
   unfolding readLine lineAfter
-  line-outside h q = rw (← e, lt-ltb (f .form) 8 h, q)
+  line-outside h q = rw (← e, lt-ltb (f .form) 9 h, q)
 
-  pub line-good : f .form < 8 → allInRange (formAt savedForms (f .form)) (f .values) ≡ true → (x : Entry) → x ≡ entryOf (f .form) (f .values) → Good (record { entry = x; length = f .length }) ≡ readLine text
+  pub line-good : f .form < 9 → allInRange (formAt savedForms (f .form)) (f .values) ≡ true → (x : Entry) → x ≡ entryOf (f .form) (f .values) → Good (record { entry = x; length = f .length }) ≡ readLine text
   unfolding readLine lineAfter
-  line-good h q x g = rw (← e, lt-ltb (f .form) 8 h, q, g)
+  line-good h q x g = rw (← e, lt-ltb (f .form) 9 h, q, g)
 
 -- ---- what is read stands there
 
 abbrev pub NoFormAt : List ℕ → Type 0
-NoFormAt text = (form : ℕ) (values more : List ℕ) → form < 8 → valuesFit (formAt savedForms form) values ≡ true → text ≡ fill (formAt savedForms form) values ++ more → ⊥
+NoFormAt text = (form : ℕ) (values more : List ℕ) → form < 9 → valuesFit (formAt savedForms form) values ≡ true → text ≡ fill (formAt savedForms form) values ++ more → ⊥
 
 pub record GoodLine (text : List ℕ) (p : Parsed) : Type 0 where
   pub isLine : text ≡ lineText (p .entry) ++ drop (p .length) text
@@ -78,20 +78,20 @@ Answers text (Bad number) = ((number ≡ 10) × NoFormAt text) ⊎ ((number ≡ 
 good-or-bad : {number : ℕ} {p : Parsed} → Bad number ≡ Good p → ⊥
 good-or-bad h = unequal cc
 
-found-answers : (text : List ℕ) (f : Found) → f ≡ found savedForms text → Hits savedForms text f → (x : Bool) → ltb (f .form) 8 ≡ x → (y : Bool) → allInRange (formAt savedForms (f .form)) (f .values) ≡ y →
+found-answers : (text : List ℕ) (f : Found) → f ≡ found savedForms text → Hits savedForms text f → (x : Bool) → ltb (f .form) 9 ≡ x → (y : Bool) → allInRange (formAt savedForms (f .form)) (f .values) ≡ y →
     Answers text (cond x (cond y (Good (record { entry = entryOf (f .form) (f .values); length = f .length })) (Bad 11)) (Bad 10))
 found-answers text f e hits false p y q =
     inl (
       refl,
       λ form values more l. found-none savedForms text forms-distinct
-          (sym (ap (λ (x : Found). x .form) e) ∙ (let m = ltb-false (f .form) 8 p in omega (arith, hits .most, eight-forms))) form values more (below-all form l),
+          (sym (ap (λ (x : Found). x .form) e) ∙ (let m = ltb-false (f .form) 9 p in omega (arith, hits .most, nine-forms))) form values more (below-all form l),
     )
 found-answers text f e hits true p true q =
-    let l = ltb-true (f .form) 8 p in
+    let l = ltb-true (f .form) 9 p in
     let says = values-say (f .form) (f .values) l (hits .six) q in
     record { isLine = rw (says .text) (hits .text (below-all (f .form) l)); ranged = says .ranged; within = hits .short }
 found-answers text f e hits true p false q =
-    let l = ltb-true (f .form) 8 p in
+    let l = ltb-true (f .form) 9 p in
     inr (
       refl,
       record {
@@ -109,7 +109,7 @@ pub read-answers : (text : List ℕ) → Answers text (readLine text)
 unfolding readLine lineAfter
 read-answers text =
     let f = found savedForms text in
-    found-answers text f refl (found-hits savedForms text forms-distinct) (ltb (f .form) 8) refl (allInRange (formAt savedForms (f .form)) (f .values)) refl
+    found-answers text f refl (found-hits savedForms text forms-distinct) (ltb (f .form) 9) refl (allInRange (formAt savedForms (f .form)) (f .values)) refl
 
 -- no form is 10
 pub read-none : (text : List ℕ) → NoFormAt text → readLine text ≡ Bad 10

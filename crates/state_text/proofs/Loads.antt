@@ -26,7 +26,7 @@ use Rattle.state_text.specs.Reading.{readLine, entryIn, lengthIn, Loadin
 use Rattle.state_text.specs.Causes.{Ranged}
 use Rattle.state_text.specs.Parts.{AsStored, BeforeLoans, lineNumber, numberIn}
 use Rattle.state_text.specs.declared.entries.Entry.{Entry}
-use Rattle.state_text.specs.declared.entries.Entry.the-variants.{Now, Assigned, Granted, Loan as LoanLine, Open, Place, Active, Did}
+use Rattle.state_text.specs.declared.entries.Entry.the-variants.{Now, Assigned, Granted, Loan as LoanLine, Open, Place, Active, Did, PlaceWithError}
 use Rattle.state_text.specs.declared.reading.LineRead.{LineRead}
 use Rattle.state_text.specs.declared.reading.LineRead.the-variants.{Good, Bad}
 use Rattle.state_text.specs.declared.reading.LoadedState.{LoadedState}
@@ -94,6 +94,7 @@ loans-filled s (Open i u) filled few room = (filled, few)
 loans-filled s (Place i x y) filled few room = (filled, few)
 loans-filled s (Active i r) filled few room = (filled, few)
 loans-filled s (Did o p u) filled few room = (filled, few)
+loans-filled s (PlaceWithError i x y e) filled few room = (filled, few)
 
 -- none is lent before the first loan's rank
 module _ (next : ℕ) (s : State) (unlent : next ≤ 3073 → loansOf s ≡ []) where
@@ -107,6 +108,7 @@ module _ (next : ℕ) (s : State) (unlent : next ≤ 3073 → loansOf s ≡ []) 
   still-unlent (Place i x y) past low = absurd (omega arith)
   still-unlent (Active i r) past low = absurd (omega arith)
   still-unlent (Did o p u) past low = absurd (omega arith)
+  still-unlent (PlaceWithError i x y e) past low = absurd (omega arith)
 
   assigned-first : (e : Entry) → Ranged e → next ≤ rank e → BeforeLoans s e
   unfolding rank formOf
@@ -118,6 +120,7 @@ module _ (next : ℕ) (s : State) (unlent : next ≤ 3073 → loansOf s ≡ []) 
   assigned-first (Place i x y) h past form = absurd (omega arith)
   assigned-first (Active i r) h past form = absurd (omega arith)
   assigned-first (Did o p u) h past form = absurd (omega arith)
+  assigned-first (PlaceWithError i x y e) h past form = absurd (omega arith)
 
 -- ---- the loop
 

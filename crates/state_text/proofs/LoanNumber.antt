@@ -6,16 +6,17 @@ use mathlib.Core.List.{List, [], _∷_, _++_, map}
 use Prim.Native.Nat.{ℕ, zero, suc, _+_}
 use native.Mathlib.Omega.{arith}
 use lib.ListN.{length}
+use lib.Dec.{eqb}
 use Rattle.loans.specs.declared.Loan.{Loan}
 use Rattle.places.specs.declared.Position.{Position}
 use Rattle.places.specs.declared.Position.the-variants.{Unknown, Known}
 use Rattle.enforcement.specs.States.{assignedRole, carries, loansOf, isOpen, userOf, positionOf, activeRole, did}
 use Rattle.enforcement.specs.declared.states.State.{State}
 use Rattle.state_text.specs.Entries.{formOf, isLoan}
-use Rattle.state_text.specs.Saving.{over, only, loanLine, placeLines, sessionLines, linesOf}
+use Rattle.state_text.specs.Saving.{over, only, loanLine, placeLine, placeLines, sessionLines, linesOf}
 use Rattle.state_text.specs.Causes.{loanLines}
 use Rattle.state_text.specs.declared.entries.Entry.{Entry}
-use Rattle.state_text.specs.declared.entries.Entry.the-variants.{Now, Assigned, Granted, Open, Active, Did}
+use Rattle.state_text.specs.declared.entries.Entry.the-variants.{Now, Assigned, Granted, Open, Place, Active, Did, PlaceWithError}
 use Rattle.state_text.proofs.Rows.{over-zero, over-suc}
 
 -- n of the lines are loans
@@ -48,9 +49,13 @@ none-only true e h = record { number = rw h }
 none-only false e h = record { number = refl }
 
 none-place : (i : ℕ) (p : Position) → Numbered (placeLines i p) 0
-unfolding loanLines formOf
+unfolding loanLines formOf placeLine
 none-place i Unknown = record { number = refl }
-none-place i (Known point) = record { number = refl }
+none-place i (Known point) = record { number = go (eqb (point .error) 0) }
+  where
+    go : (b : Bool) → loanLines (cond b (Place i (point .x) (point .y)) (PlaceWithError i (point .x) (point .y) (point .error)) ∷ []) ≡ 0
+    go true = refl
+    go false = refl
 
 each-loan : (l : List Loan) → Numbered (map loanLine l) (length l)
 unfolding loanLines formOf

@@ -8,7 +8,7 @@ use native.Mathlib.Nat.{add-mul, mul-le-mul, le-refl}
 use native.Mathlib.Numerals.{add-one}
 use native.Mathlib.Omega.{arith}
 use lib.ListN.{length, length-append}
-use lib.Dec.{ltb}
+use lib.Dec.{ltb, eqb}
 use lib.IntN.{ℤ, pos, negsuc}
 use mir.Syntax.{w32}
 use mir.Val.{SFits}
@@ -17,6 +17,7 @@ use Rattle.sets.proofs.Bounded.{of-all}
 use Rattle.sets.proofs.Booleans.{left-true}
 use Rattle.sets.proofs.Counting.{count-same, count-le, count-mono}
 use Rattle.sets.proofs.Members.{member-intersection}
+use Rattle.places.specs.declared.Point.{Point}
 use Rattle.rules.specs.Families.{wordAt}
 use Rattle.rules.specs.declared.sessions.Session.{Session}
 use Rattle.loans.specs.declared.Loan.{Loan}
@@ -26,13 +27,13 @@ use Rattle.forms.specs.Numbers.{digitsOf, signedOf, signedCode}
 use Rattle.forms.specs.Writing.{lastPlace, capped}
 use Rattle.forms.proofs.Puts.{capped-small, digits-length}
 use Rattle.state_text.specs.Entries.{lineText}
-use Rattle.state_text.specs.Saving.{over, only, loanLine, placeLines, linesText, savedText}
+use Rattle.state_text.specs.Saving.{over, only, loanLine, placeLine, placeLines, linesText, savedText}
 use Rattle.state_text.specs.Parts.{memberLine, memberLines, setLines, rowLines, historyLines, openLines, sessionParts, sessionPartsAt, width, Measured, SetMeasured, RowsMeasured}
 use Rattle.state_text.specs.declared.entries.Entry.{Entry}
-use Rattle.state_text.specs.declared.entries.Entry.the-variants.{Now, Open, Place, Active, Did}
+use Rattle.state_text.specs.declared.entries.Entry.the-variants.{Now, Open, Place, Active, Did, PlaceWithError}
 use Rattle.state_text.proofs.Rows.{over-zero, over-suc}
 use Rattle.state_text.proofs.JoinedLines.{text-append, text-none, text-one}
-use Rattle.state_text.proofs.LineSizes.{now-bytes, loan-bytes, open-bytes, place-bytes, assigned-size, granted-size, active-size, did-size}
+use Rattle.state_text.proofs.LineSizes.{now-bytes, loan-bytes, open-bytes, place-bytes, error-bytes, assigned-size, granted-size, active-size, did-size}
 use Rattle.state_text.proofs.Writes.{low-set, saved-parts}
 
 -- ---- one line, or none
@@ -139,9 +140,23 @@ unfolding signedCode
 code-small (pos n) h = omega (arith, h .sfits)
 code-small (negsuc n) h = omega (arith, h .sfits)
 
-pub place-measured : (i : ℕ) (x y : ℤ) {r : ℕ} → i < 2 ^ 64 → SFits w32 x → SFits w32 y → r ≡ capped (length (lineText (Place i x y))) → Measured (Place i x y ∷ []) 100 r
-place-measured i x y k fx fy h =
-    one-measured (Place i x y) h (omega (arith, place-bytes i x y, digits-length 19 i (omega arith), signed-length (signedCode x) (code-small x fx), signed-length (signedCode y) (code-small y fy))) (omega arith)
+pub place-measured : (i : ℕ) (point : Point) {r : ℕ} → i < 2 ^ 64 → SFits w32 (point .x) → SFits w32 (point .y) → point .error < 2 ^ 64 → r ≡ capped (length (lineText (placeLine i point))) → Measured (placeLine i point ∷ []) 100 r
+unfolding placeLine
+place-measured i point {r} k fx fy l h = go (eqb (point .error) 0) h
+  where
+    x : length (signedOf (signedCode (point .x))) ≤ 21
+    x = signed-length (signedCode (point .x)) (code-small (point .x) fx)
+
+    y : length (signedOf (signedCode (point .y))) ≤ 21
+    y = signed-length (signedCode (point .y)) (code-small (point .y) fy)
+
+    go : (b : Bool) → r ≡ capped (length (lineText (cond b (Place i (point .x) (point .y)) (PlaceWithError i (point .x) (point .y) (point .error)))))
+        → Measured (cond b (Place i (point .x) (point .y)) (PlaceWithError i (point .x) (point .y) (point .error)) ∷ []) 100 r
+    go true h =
+        one-measured (Place i (point .x) (point .y)) h (omega (arith, place-bytes i (point .x) (point .y), digits-length 19 i (omega arith), x, y)) (omega arith)
+    go false h =
+        one-measured (PlaceWithError i (point .x) (point .y) (point .error)) h
+        (omega (arith, error-bytes i (point .x) (point .y) (point .error), digits-length 19 i (omega arith), x, y, digits-length 19 (point .error) (omega arith))) (omega arith)
 
 -- a loan's numbers are bytes, and its end is below 2 ^ 32
 pub loan-measured : (loan : Loan) {r : ℕ} → loan .lender < 256 → loan .borrower < 256 → loan .role < 256 → loan .until < 2 ^ 32 → r ≡ capped (length (lineText (loanLine loan)))

@@ -12,7 +12,7 @@ use lib.Dec.{ltb}
 use borrow.Author.Tests.{ltb-true, ltb-false}
 use lib.IntN.{ℤ}
 use Rattle.state_text.specs.Entries.{rank}
-use Rattle.state_text.specs.declared.entries.Entry.the-variants.{Now, Assigned, Granted, Loan, Open, Place, Active, Did}
+use Rattle.state_text.specs.declared.entries.Entry.the-variants.{Now, Assigned, Granted, Loan, Open, Place, Active, Did, PlaceWithError}
 
 -- ---- one kind of line after the other
 
@@ -39,6 +39,11 @@ open-then-place i u x y = omega arith
 pub place-then-active : (i r : ℕ) (x y : ℤ) → rank (Place i x y) < rank (Active i r)
 unfolding rank
 place-then-active i r x y = omega arith
+
+-- a place with its error stands where one without does
+pub error-in-place : (i : ℕ) (x y x′ y′ : ℤ) (e : ℕ) → rank (PlaceWithError i x y e) ≡ rank (Place i x′ y′)
+unfolding rank
+error-in-place i x y x′ y′ e = refl
 
 pub session-then-session : (i j r u : ℕ) → r < 32 → i < j → rank (Active i r) < rank (Open j u)
 unfolding rank

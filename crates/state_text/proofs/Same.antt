@@ -2,11 +2,14 @@
 -- Assumes nothing.
 use mathlib.Core.Path.{_≡_, refl, sym, ap, _∙_}
 use mathlib.Core.Bool.{Bool, true, false}
-use mathlib.Core.List.{List}
+use mathlib.Core.List.{List, [], _∷_}
 use Prim.Native.Nat.{ℕ, suc, _+_, _*_, _/_, _%_, _≤_, _<_}
 use native.Mathlib.Omega.{arith}
 use lib.Seq.{ext-getD}
 use Rattle.sets.proofs.Width.{same-members}
+use lib.Dec.{eqb}
+use borrow.Author.Tests.{eqb-true}
+use Rattle.places.specs.declared.Point.{Point}
 use Rattle.places.specs.declared.Position.{Position}
 use Rattle.places.specs.declared.Position.the-variants.{Unknown, Known}
 use Rattle.rules.specs.Families.{wordAt, hasRole, closedSession, sessionAt}
@@ -17,9 +20,9 @@ use Rattle.enforcement.specs.States.{loansOf, isOpen, userOf, positionOf}
 use Rattle.enforcement.specs.Reached.{Accepted}
 use Rattle.enforcement.specs.declared.states.State.{State}
 use Rattle.enforcement.proofs.Loans.{loans-ordered}
-use Rattle.state_text.specs.Saving.{only, placeLines}
+use Rattle.state_text.specs.Saving.{only, placeLine, placeLines}
 use Rattle.state_text.specs.declared.entries.Entry.{Entry}
-use Rattle.state_text.specs.declared.entries.Entry.the-variants.{Assigned, Granted, Open, Active, Did}
+use Rattle.state_text.specs.declared.entries.Entry.the-variants.{Assigned, Granted, Open, Place, Active, Did, PlaceWithError}
 use Rattle.state_text.proofs.Cells.{allLines, sessionCells, at, at-now, at-assigned, at-granted, at-loan, at-session, at-did}
 use Rattle.state_text.proofs.Keeping.{Kept, closed-empty}
 use Rattle.state_text.proofs.LoanCells.{keysBelow, cells-below, same-lines, all-keys}
@@ -31,14 +34,37 @@ only-same true false e h = unequal cc
 only-same false true e h = unequal cc
 only-same false false e h = refl
 
+-- a line says of which point it is
+line-point : (i : ℕ) (point other : Point) (b c : Bool) → eqb (point .error) 0 ≡ b → eqb (other .error) 0 ≡ c → placeLine i point ≡ placeLine i other → point ≡ other
+unfolding placeLine
+line-point i point other true true eb ec h =
+    let line : Place i (point .x) (point .y) ≡ Place i (other .x) (other .y) = rw (eb, ec) at h in
+    let x : point .x ≡ other .x = cc in
+    let y : point .y ≡ other .y = cc in
+    let error : point .error ≡ other .error = eqb-true (point .error) 0 eb ∙ sym (eqb-true (other .error) 0 ec) in
+    λ j. record { x = x j; y = y j; error = error j }
+line-point i point other false false eb ec h =
+    let line : PlaceWithError i (point .x) (point .y) (point .error) ≡ PlaceWithError i (other .x) (other .y) (other .error) = rw (eb, ec) at h in
+    let x : point .x ≡ other .x = cc in
+    let y : point .y ≡ other .y = cc in
+    let error : point .error ≡ other .error = cc in
+    λ j. record { x = x j; y = y j; error = error j }
+line-point i point other true false eb ec h =
+    let line : Place i (point .x) (point .y) ≡ PlaceWithError i (other .x) (other .y) (other .error) = rw (eb, ec) at h in
+    unequal cc
+line-point i point other false true eb ec h =
+    let line : PlaceWithError i (point .x) (point .y) (point .error) ≡ Place i (other .x) (other .y) = rw (eb, ec) at h in
+    unequal cc
+
+head-same : {a b : Entry} → a ∷ [] ≡ b ∷ [] → a ≡ b
+head-same h = cc
+
 place-same : (i : ℕ) (p q : Position) → placeLines i p ≡ placeLines i q → p ≡ q
 place-same i Unknown Unknown h = refl
 place-same i Unknown (Known point) h = unequal cc
 place-same i (Known point) Unknown h = unequal cc
 place-same i (Known point) (Known other) h =
-    let x : point .x ≡ other .x = cc in
-    let y : point .y ≡ other .y = cc in
-    λ j. Known (record { x = x j; y = y j })
+    ap Known (line-point i point other (eqb (point .error) 0) (eqb (other .error) 0) refl refl (head-same h))
 
 open-same : (i : ℕ) (b c : Bool) (u v : ℕ) → only b (Open i u) ≡ only c (Open i v) → (b ≡ false → u ≡ 0) → (c ≡ false → v ≡ 0) → (b ≡ c) × (u ≡ v)
 open-same i true true u v h p q = (refl, cc)

@@ -15,7 +15,7 @@ use Rattle.state_text.specs.Entries.{savedForms, formOf, valuesOf, lineT
 use Rattle.state_text.specs.Causes.{Ranged}
 use Rattle.state_text.specs.Words.{lineWords}
 use Rattle.state_text.specs.declared.entries.Entry.{Entry}
-use Rattle.state_text.specs.declared.entries.Entry.the-variants.{Now, Assigned, Granted, Loan, Open, Place, Active, Did}
+use Rattle.state_text.specs.declared.entries.Entry.the-variants.{Now, Assigned, Granted, Loan, Open, Place, Active, Did, PlaceWithError}
 
 on-grid-short : (z : ℤ) → onGrid z ≡ true → natAbs z ≤ 9999999999
 on-grid-short z h = omega (arith, leb-true (natAbs z) 1000000 h)
@@ -30,3 +30,4 @@ line-reads (Open i u) h = refl
 line-reads (Place i x y) h = rw (signed-text x (on-grid-short x (h .1)), signed-text y (on-grid-short y (h .2)))
 line-reads (Active i r) h = refl
 line-reads (Did o p u) h = refl
+line-reads (PlaceWithError i x y e) h = rw (signed-text x (on-grid-short x (h .1)), signed-text y (on-grid-short y (h .2)))

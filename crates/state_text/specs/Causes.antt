@@ -15,12 +15,12 @@ use Rattle.state_text.specs.Entries.{savedForms, lineText, rank, withLin
 use Rattle.state_text.specs.Saving.{linesText}
 use Rattle.state_text.specs.Reading.{loaded, readState}
 use Rattle.state_text.specs.declared.entries.Entry.{Entry}
-use Rattle.state_text.specs.declared.entries.Entry.the-variants.{Now, Assigned, Granted, Loan, Open, Place, Active, Did}
+use Rattle.state_text.specs.declared.entries.Entry.the-variants.{Now, Assigned, Granted, Loan, Open, Place, Active, Did, PlaceWithError}
 
 -- ---- good lines
 
 -- "Users u 0 to 63, roles r 0 to 31, permissions p 0 to 31, sessions s 0 to 31, objects o 0 to 31. .. Time t: .. 0 to 3,155,759,999. x, y:
--- whole metres on the farm grid"
+-- whole metres on the farm grid"; 2026-04: "a fourth number e, 1 to 1000"
 abbrev pub Ranged : Entry → Type 0
 Ranged (Now t) = t ≤ 3155759999
 Ranged (Assigned u r) = (u < 64) × (r < 32)
@@ -30,6 +30,7 @@ Ranged (Open i u) = (i < 32) × (u < 64)
 Ranged (Place i x y) = (i < 32) × (onGrid x ≡ true) × (onGrid y ≡ true)
 Ranged (Active i r) = (i < 32) × (r < 32)
 Ranged (Did o p u) = (o < 32) × (p < 32) × (u < 64)
+Ranged (PlaceWithError i x y e) = (i < 32) × (onGrid x ≡ true) × (onGrid y ≡ true) × (1 ≤ e) × (e ≤ 1000)
 
 -- "ascending", "twice", "another form in the first line": a first line other than `now`, or an earlier line that stands at its place or
 -- later
@@ -52,6 +53,7 @@ Lacks es (Open i u) = ⊥
 Lacks es (Place i x y) = (u : ℕ) → List·Memᴰ (Open i u) es → ⊥
 Lacks es (Active i r) = (u : ℕ) → List·Memᴰ (Open i u) es → RoleHeld es u r → ⊥
 Lacks es (Did o p u) = ⊥
+Lacks es (PlaceWithError i x y e) = (u : ℕ) → List·Memᴰ (Open i u) es → ⊥
 
 -- how many lines are loans
 unfoldable pub loanLines : List Entry → ℕ
@@ -83,14 +85,14 @@ stateAfter s (e ∷ es) = stateAfter (withLine s e) es
 -- 10: no form with any numbers is that line; a first line there must be, a later one is there where the text goes on
 pub record NoForm (earlier : List Entry) (text : List ℕ) : Type 0 where
   pub isThere : (earlier ≡ []) ⊎ (0 < length text)
-  pub none : (form : ℕ) (values more : List ℕ) → form < 8 → valuesFit (formAt savedForms form) values ≡ true → text ≡ fill (formAt savedForms form) values ++ more → ⊥
+  pub none : (form : ℕ) (values more : List ℕ) → form < 9 → valuesFit (formAt savedForms form) values ≡ true → text ≡ fill (formAt savedForms form) values ++ more → ⊥
 
 -- 11: a form with some numbers is, and a number is outside its range: no line in range is that line
 pub record OutOfRange (text : List ℕ) : Type 0 where
   pub form : ℕ
   pub values : List ℕ
   pub more : List ℕ
-  pub isForm : form < 8
+  pub isForm : form < 9
   pub canStand : valuesFit (formAt savedForms form) values ≡ true
   pub isLine : text ≡ fill (formAt savedForms form) values ++ more
   pub outside : (entry : Entry) (later : List ℕ) → Ranged entry → text ≡ lineText entry ++ later → ⊥

@@ -1,5 +1,5 @@
 -- Document 01, 'Texts', the saved state: its forms, what each line says, where it stands, and what it rests on. With the loans of request
--- 2026-01. Assumes nothing.
+-- 2026-01 and the errors of 2026-04. Assumes nothing.
 use Prim.Native.Nat.{ℕ, zero, suc, _+_, _*_}
 use mathlib.Core.Bool.{Bool, true, not, cond, _&&_}
 use mathlib.Core.List.{List, [], _∷_, _++_}
@@ -14,12 +14,12 @@ use Rattle.enforcement.specs.States.{assignedRole, loansOf, holdsRole, isOpen, 
 use Rattle.enforcement.specs.Steps.{withTime, withAssigned, withGranted, withLoans, withSessions, withActive, withHistory, put, session}
 use Rattle.enforcement.specs.declared.states.State.{State}
 use Rattle.state_text.specs.declared.entries.Entry.{Entry}
-use Rattle.state_text.specs.declared.entries.Entry.the-variants.{Now, Assigned, Granted, Loan, Open, Place, Active, Did}
+use Rattle.state_text.specs.declared.entries.Entry.the-variants.{Now, Assigned, Granted, Loan, Open, Place, Active, Did, PlaceWithError}
 
--- ---- the forms, each number by the mark of its kind
+-- ---- the forms, each number by the mark of its kind; 2026-04: "`move` and `place` take a fourth number e, 1 to 1000; left out means 0"
 
 unfoldable pub savedForms : List ℕ
-savedForms = bytes "(now ~)\n(assigned @ $)\n(granted $ %)\n(loan @ @ $ ~)\n(open & @)\n(place & + +)\n(active & $)\n(did * % @)\n"
+savedForms = bytes "(now ~)\n(assigned @ $)\n(granted $ %)\n(loan @ @ $ ~)\n(open & @)\n(place & + +)\n(active & $)\n(did * % @)\n(place & + + `)\n"
 
 -- the line that a form says with its values
 unfoldable pub entryOf : ℕ → List ℕ → Entry
@@ -30,7 +30,8 @@ entryOf (suc (suc (suc zero))) v = Loan (getD v 0 0) (getD v 1 0) (getD v 2 0) (
 entryOf (suc (suc (suc (suc zero)))) v = Open (getD v 0 0) (getD v 1 0)
 entryOf (suc (suc (suc (suc (suc zero))))) v = Place (getD v 0 0) (coordinateOf (getD v 1 0)) (coordinateOf (getD v 2 0))
 entryOf (suc (suc (suc (suc (suc (suc zero)))))) v = Active (getD v 0 0) (getD v 1 0)
-entryOf (suc (suc (suc (suc (suc (suc (suc form))))))) v = Did (getD v 0 0) (getD v 1 0) (getD v 2 0)
+entryOf (suc (suc (suc (suc (suc (suc (suc zero))))))) v = Did (getD v 0 0) (getD v 1 0) (getD v 2 0)
+entryOf (suc (suc (suc (suc (suc (suc (suc (suc form)))))))) v = PlaceWithError (getD v 0 0) (coordinateOf (getD v 1 0)) (coordinateOf (getD v 2 0)) (getD v 3 0)
 
 -- a line's form, and its values
 unfoldable pub formOf : Entry → ℕ
@@ -42,6 +43,7 @@ formOf (Open i u) = 4
 formOf (Place i x y) = 5
 formOf (Active i r) = 6
 formOf (Did o p u) = 7
+formOf (PlaceWithError i x y e) = 8
 
 unfoldable pub valuesOf : Entry → List ℕ
 valuesOf (Now t) = t ∷ 0 ∷ 0 ∷ 0 ∷ 0 ∷ 0 ∷ []
@@ -52,6 +54,7 @@ valuesOf (Open i u) = i ∷ u ∷ 0 ∷ 0 ∷ 0 ∷ 0 ∷ []
 valuesOf (Place i x y) = i ∷ signedCode x ∷ signedCode y ∷ 0 ∷ 0 ∷ 0 ∷ []
 valuesOf (Active i r) = i ∷ r ∷ 0 ∷ 0 ∷ 0 ∷ 0 ∷ []
 valuesOf (Did o p u) = o ∷ p ∷ u ∷ 0 ∷ 0 ∷ 0 ∷ []
+valuesOf (PlaceWithError i x y e) = i ∷ signedCode x ∷ signedCode y ∷ e ∷ 0 ∷ 0 ∷ []
 
 unfoldable pub lineText : Entry → List ℕ
 lineText e = fill (formAt savedForms (formOf e)) (valuesOf e)
@@ -68,6 +71,7 @@ rank (Open i u) = 1 + (2048 + (1024 + (131072 + (i * 34 + 0))))
 rank (Place i x y) = 1 + (2048 + (1024 + (131072 + (i * 34 + 1))))
 rank (Active i r) = 1 + (2048 + (1024 + (131072 + (i * 34 + (2 + r)))))
 rank (Did o p u) = 1 + (2048 + (1024 + (131072 + (1088 + ((o * 32 + p) * 64 + u)))))
+rank (PlaceWithError i x y e) = 1 + (2048 + (1024 + (131072 + (i * 34 + 1))))
 
 -- "saved line out of order or twice" is 15, and so is "another form in the first line": next is 0 at the first line, and then 1 more
 -- than the last line's rank
@@ -85,9 +89,10 @@ withLine s (Assigned u r) = withAssigned s (put 32 (s .assigned) u r)
 withLine s (Granted r p) = withGranted s (put 32 (s .granted) r p)
 withLine s (Loan u v r t) = withLoans s (stored (loansOf s ++ (loanOf u v r t ∷ [])))
 withLine s (Open i u) = withSessions s (set (s .sessions) i (session true u (positionOf s i)))
-withLine s (Place i x y) = withSessions s (set (s .sessions) i (session (isOpen s i) (userOf s i) (Known (record { x = x; y = y }))))
+withLine s (Place i x y) = withSessions s (set (s .sessions) i (session (isOpen s i) (userOf s i) (Known (record { x = x; y = y; error = 0 }))))
 withLine s (Active i r) = withActive s (put 32 (s .active) i r)
 withLine s (Did o p u) = withHistory s (put 64 (s .history) (o * 32 + p) u)
+withLine s (PlaceWithError i x y e) = withSessions s (set (s .sessions) i (session (isOpen s i) (userOf s i) (Known (record { x = x; y = y; error = e }))))
 
 -- "place or active without its open, or role not assigned" is 16; 2026-01: "A saved loan is 16 where u isn't assigned r, v already holds r or t
 -- is not later than now"; "16 .. read held"
@@ -100,6 +105,7 @@ rests s (Open i u) = true
 rests s (Place i x y) = isOpen s i
 rests s (Active i r) = isOpen s i && holdsRole s (userOf s i) r
 rests s (Did o p u) = true
+rests s (PlaceWithError i x y e) = isOpen s i
 
 -- 2026-01: "a thirty-third is 51 with its line"
 abbrev pub isLoan : Entry → Bool

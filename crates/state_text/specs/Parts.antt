@@ -16,7 +16,7 @@ use Rattle.rules.specs.declared.sessions.Session.{Session}
 use Rattle.state_text.specs.Entries.{formOf, follows, lineText}
 use Rattle.state_text.specs.Saving.{over, only, placeLines, linesText}
 use Rattle.state_text.specs.declared.entries.Entry.{Entry}
-use Rattle.state_text.specs.declared.entries.Entry.the-variants.{Now, Assigned, Granted, Loan as LoanLine, Open, Place, Active, Did}
+use Rattle.state_text.specs.declared.entries.Entry.the-variants.{Now, Assigned, Granted, Loan as LoanLine, Open, Place, Active, Did, PlaceWithError}
 use Rattle.state_text.specs.declared.reading.LineRead.{LineRead}
 use Rattle.state_text.specs.declared.reading.LineRead.the-variants.{Good, Bad}
 
@@ -32,6 +32,7 @@ sessionOf (Open i u) = i
 sessionOf (Place i x y) = i
 sessionOf (Active i r) = i
 sessionOf (Did o p u) = 0
+sessionOf (PlaceWithError i x y e) = i
 
 -- the entry where the next of so many loans goes; the last one where there is no room for it
 unfoldable pub loanPlace : ℕ → ℕ

@@ -27,7 +27,7 @@ use Rattle.state_text.specs.declared.reading.LoadedState.{LoadedState}
 
 unfoldable pub lineAfter : Found → LineRead
 lineAfter f =
-    cond (ltb (f .form) 8)
+    cond (ltb (f .form) 9)
     (cond (allInRange (formAt savedForms (f .form)) (f .values)) (Good (record { entry = entryOf (f .form) (f .values); length = f .length })) (Bad 11))
     (Bad 10)
 

@@ -1,9 +1,11 @@
 -- Document 01, 'Texts': a state's lines in their order, its text, and what writing it gives. Assumes nothing.
 use Prim.Native.Nat.{ℕ, zero, suc}
-use mathlib.Core.Bool.{Bool, true, false}
+use mathlib.Core.Bool.{Bool, true, false, cond}
 use mathlib.Core.List.{List, [], _∷_, _++_, map}
 use Rattle.forms.specs.Writing.{writtenIf, lentIf}
 use Rattle.forms.specs.declared.writing.Written.{Written}
+use lib.Dec.{eqb}
+use Rattle.places.specs.declared.Point.{Point}
 use Rattle.places.specs.declared.Position.{Position}
 use Rattle.places.specs.declared.Position.the-variants.{Unknown, Known}
 use Rattle.loans.specs.declared.Loan.{Loan}
@@ -11,7 +13,7 @@ use Rattle.enforcement.specs.States.{assignedRole, carries, loansOf, isOpen, us
 use Rattle.enforcement.specs.declared.states.State.{State}
 use Rattle.state_text.specs.Entries.{lineText}
 use Rattle.state_text.specs.declared.entries.Entry.{Entry}
-use Rattle.state_text.specs.declared.entries.Entry.the-variants.{Now, Assigned, Granted, Loan as LoanLine, Open, Place, Active, Did}
+use Rattle.state_text.specs.declared.entries.Entry.the-variants.{Now, Assigned, Granted, Loan as LoanLine, Open, Place, Active, Did, PlaceWithError}
 
 -- ---- a state's lines
 
@@ -29,10 +31,14 @@ only false a = []
 abbrev pub loanLine : Loan → Entry
 loanLine loan = LoanLine (loan .lender) (loan .borrower) (loan .role) (loan .until)
 
+-- 2026-04: an error of 0 is left out
+unfoldable pub placeLine : ℕ → Point → Entry
+placeLine i point = cond (eqb (point .error) 0) (Place i (point .x) (point .y)) (PlaceWithError i (point .x) (point .y) (point .error))
+
 -- "(place s x y) if known"
 abbrev pub placeLines : ℕ → Position → List Entry
 placeLines i Unknown = []
-placeLines i (Known point) = Place i (point .x) (point .y) ∷ []
+placeLines i (Known point) = placeLine i point ∷ []
 
 -- "per session (open s u), (place s x y) if known, (active s r)"
 unfoldable pub sessionLines : State → ℕ → List Entry

@@ -7,17 +7,20 @@ ghost use Rattle.state_text.specs.Causes.{Ranged};
 ghost use Rattle.state_text.specs.Parts.{sessionOf};
 
 // The forms of a saved state, a line each; a mark stands for a number of its kind.
-pub(crate) const FORMS: [u8; 102] = *b"(now ~)\n\
+pub(crate) const FORMS: [u8; 118] = *b"(now ~)\n\
 (assigned @ $)\n\
 (granted $ %)\n\
 (loan @ @ $ ~)\n\
 (open & @)\n\
 (place & + +)\n\
 (active & $)\n\
-(did * % @)\n";
+(did * % @)\n\
+(place & + + `)\n";
+
+pub(crate) const FORM_COUNT: usize = 9;
 
 // Where each form starts, and where the last one ends.
-pub(crate) const STARTS: [usize; 9] = [0, 8, 23, 37, 52, 63, 77, 90, 102];
+pub(crate) const STARTS: [usize; 10] = [0, 8, 23, 37, 52, 63, 77, 90, 102, 118];
 
 // A line, by its form and its numbers.
 pub enum Entry {
@@ -37,6 +40,8 @@ pub enum Entry {
     Active(u64, u64),
     // (did o p u)
     Did(u64, u64, u64),
+    // (place s x y e)
+    PlaceWithError(u64, i32, i32, u64),
 }
 
 impl Entry {
@@ -57,7 +62,13 @@ impl Entry {
                 forms::coordinate(values[2]),
             ),
             6 => Entry::Active(values[0], values[1]),
-            _ => Entry::Did(values[0], values[1], values[2]),
+            7 => Entry::Did(values[0], values[1], values[2]),
+            _ => Entry::PlaceWithError(
+                values[0],
+                forms::coordinate(values[1]),
+                forms::coordinate(values[2]),
+                values[3],
+            ),
         }
     }
 
@@ -74,6 +85,7 @@ impl Entry {
             Entry::Place(_, _, _) => 5,
             Entry::Active(_, _) => 6,
             Entry::Did(_, _, _) => 7,
+            Entry::PlaceWithError(_, _, _, _) => 8,
         }
     }
 
@@ -94,6 +106,11 @@ impl Entry {
             }
             Entry::Active(session, role) => [session, role, 0, 0, 0, 0],
             Entry::Did(object, permission, user) => [object, permission, user, 0, 0, 0],
+            Entry::PlaceWithError(session, x, y, error) => {
+                let first = forms::signed_code(x);
+                let second = forms::signed_code(y);
+                [session, first, second, error, 0, 0]
+            }
         }
     }
 
@@ -110,6 +127,7 @@ impl Entry {
             Entry::Place(session, _, _) => session as usize,
             Entry::Active(session, _) => session as usize,
             Entry::Did(_, _, _) => 0,
+            Entry::PlaceWithError(session, _, _, _) => session as usize,
         }
     }
 
@@ -131,6 +149,7 @@ impl Entry {
             Entry::Did(object, permission, user) => {
                 column_rank(135233, column_rank(0, object, 32, permission), 64, user)
             }
+            Entry::PlaceWithError(session, _, _, _) => column_rank(134145, session, 34, 1),
         }
     }
 }

@@ -124,10 +124,19 @@ pub(crate) fn session_after(session: Session, entry: Entry) -> Session
         Entry::Place(_, x, y) => Session {
             is_open: session.is_open,
             user: session.user,
-            position: Position::Known(Point { x, y }),
+            position: Position::Known(Point { x, y, error: 0 }),
         },
         Entry::Active(_, _) => session,
         Entry::Did(_, _, _) => session,
+        Entry::PlaceWithError(_, x, y, error) => Session {
+            is_open: session.is_open,
+            user: session.user,
+            position: Position::Known(Point {
+                x,
+                y,
+                error: error as u32,
+            }),
+        },
     }
 }
 
@@ -180,6 +189,7 @@ pub(crate) fn rests(
         Entry::Place(_, _, _) => session.is_open,
         Entry::Active(_, role) => session.is_open & has_role(held, session.user, role as usize),
         Entry::Did(_, _, _) => true,
+        Entry::PlaceWithError(_, _, _, _) => session.is_open,
     }
 }
 

@@ -10,6 +10,7 @@ ghost use Rattle.state_text.specs.Saving.{over, loanLine, placeLines, sa
 ghost use Rattle.state_text.specs.Parts.{width, Measured, SetMeasured, RowsMeasured, historyLines, openLines, sessionParts, sessionPartsAt};
 use crate::entries::Entry;
 use crate::writing::loan_line;
+use crate::writing::place_line;
 use crate::writing::wide;
 use crate::writing::write_line;
 use enforcement::Session;
@@ -104,7 +105,7 @@ fn place_length(i: u64, position: Position) -> usize
 {
     match position {
         Position::Unknown => 0,
-        Position::Known(point) => line_length(Entry::Place(i, point.x, point.y)),
+        Position::Known(point) => line_length(place_line(i, point)),
     }
 }
 

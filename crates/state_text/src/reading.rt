@@ -3,6 +3,7 @@ ghost use mathlib.Core.Path.{_≡_};
 ghost use Rattle.state_text.specs.Reading.{refused, readLine, readLines, readState, loadedOf};
 ghost use Rattle.state_text.specs.Parts.{lineNumber, numberIn};
 use crate::entries::Entry;
+use crate::entries::FORM_COUNT;
 use crate::entries::FORMS;
 use crate::entries::STARTS;
 use crate::entries::follows;
@@ -136,7 +137,7 @@ fn scan_line(text: &[u8]) -> LineRead
     let found = forms::find_likely(&FORMS, &STARTS, likely(text), text);
     let form = found.form;
     let values = found.values;
-    if 8 <= form {
+    if FORM_COUNT <= form {
         return LineRead::Bad(10);
     }
     if !forms::line_in_range(&FORMS, &STARTS, form, &values) {

@@ -7,7 +7,7 @@ ghost use lib.ListN.{length};
 ghost use Rattle.forms.specs.Writing.{Wrote};
 ghost use Rattle.loans.specs.Loans.{running};
 ghost use Rattle.state_text.specs.Entries.{lineText};
-ghost use Rattle.state_text.specs.Saving.{over, loanLine, placeLines, linesText, savedText, writtenState, lentState};
+ghost use Rattle.state_text.specs.Saving.{over, loanLine, placeLine, placeLines, linesText, savedText, writtenState, lentState};
 ghost use Rattle.state_text.specs.Parts.{memberLine, memberLines, setLines, rowLines, historyLines, openLines, sessionParts, sessionPartsAt};
 use crate::entries::Entry;
 use crate::entries::FORMS;
@@ -18,6 +18,7 @@ use enforcement::State;
 use forms::Written;
 use loans::Loan;
 use loans::Loans;
+use places::Point;
 use places::Position;
 use sets::word64;
 
@@ -123,8 +124,18 @@ fn write_place(i: u64, position: Position, out: &mut [u8], at: usize) -> usize
 {
     match position {
         Position::Unknown => at,
-        Position::Known(point) => write_line(Entry::Place(i, point.x, point.y), out, at),
+        Position::Known(point) => write_line(place_line(i, point), out, at),
     }
+}
+
+// An error of 0 is left out.
+pub(crate) fn place_line(i: u64, point: Point) -> Entry
+    ensures { λ r. ⌜ r ≡ placeLine i point ⌝ }
+{
+    if point.error == 0 {
+        return Entry::Place(i, point.x, point.y);
+    }
+    Entry::PlaceWithError(i, point.x, point.y, point.error as u64)
 }
 
 // The users of each object and permission.

@@ -9,7 +9,7 @@ use Prim.Native.Nat.{ℕ, zero, suc, _+_, _-_, _≤_, _<_}
 use native.Mathlib.Omega.{arith}
 use lib.ListN.{length, drop, getD, replicate}
 use lib.Seq.{sets}
-use lib.Dec.{eqb, ltb}
+use lib.Dec.{eqb, ltb, leb}
 use lib.IntN.{ℤ, pos, negsuc}
 use borrow.Author.Tests.{eqb-false, ne-eqb, lt-ltb, le-ltb, ltb-true, ltb-false, le-leb, leb-true, not-true}
 use Rattle.sets.proofs.Booleans.{both, both-true}
@@ -20,13 +20,13 @@ use Rattle.steps.specs.Steps.{actionOf}
 use Rattle.enforcement.specs.Causes.{Writes}
 use Rattle.steps.specs.declared.steps.Step.{Step}
 use Rattle.enforcement.proofs.Causes.{written, unwritten}
-use Rattle.forms.specs.Numbers.{signedOf, signedValue, signedCode, integerText}
+use Rattle.forms.specs.Numbers.{digitsOf, signedOf, signedValue, signedCode, integerText}
 use Rattle.forms.specs.Kinds.{isSlot, kindOf, lookup}
 use Rattle.forms.specs.Forms.{textBy, itemText, fill, fitsBy, valuesFit, valuesIn}
 use Rattle.forms.specs.Tables.{linesIn, formAt, found}
 use Rattle.forms.proofs.Finding.{found-hits, found-written}
-use Rattle.step_text.specs.Lines.{stepForms, formCount, stepFrom, lineAfter, readStep}
-use Rattle.step_text.specs.Rows.{actionText, amount, Writable, HasNumbers, ActionInRange, ReadAs, StepStands}
+use Rattle.step_text.specs.Lines.{stepForms, formCount, kindFrom, fourthFrom, stepFrom, lineAfter, readStep}
+use Rattle.step_text.specs.Rows.{errorText, actionText, amount, Writable, HasNumbers, ActionInRange, ReadAs, StepStands}
 use Rattle.step_text.specs.declared.lines.StepLine.{StepLine}
 use Rattle.step_text.specs.declared.lines.StepRead.the-variants.{Good, Bad}
 use Rattle.step_text.proofs.Stepping.{forms-distinct, forms-counted, below}
@@ -93,7 +93,7 @@ rows step =
     ∷ Access (step .first) (step .second) (step .third)
     ∷ Finish (step .first)
     ∷ Close (step .first)
-    ∷ Move (step .first) (record { x = step .x; y = step .y })
+    ∷ Move (step .first) (record { x = step .x; y = step .y; error = step .fourth })
     ∷ Lost (step .first)
     ∷ Clock (step .first)
     ∷ Lend (step .first) (step .second) (step .third) (step .fourth)
@@ -116,7 +116,7 @@ only-row step (Deactivate s r) h = rw (h .0, h .1, h .2)
 only-row step (Access s p o) h = rw (h .0, h .1, h .2, h .3)
 only-row step (Finish o) h = rw (h .0, h .1)
 only-row step (Close s) h = rw (h .0, h .1)
-only-row step (Move s point) h = rw (h .0, h .1, h .2, h .3)
+only-row step (Move s point) h = rw (h .0, h .1, h .2, h .3, h .4)
 only-row step (Lost s) h = rw (h .0, h .1)
 only-row step (Clock t) h = rw (h .0, h .1)
 only-row step (Lend u v r t) h = rw (h .0, h .1, h .2, h .3, h .4)
@@ -127,23 +127,32 @@ one-row step action other h k = sym (only-row step action h) ∙ only-row step o
 
 -- ---- a form with its values is a row's line
 
-fifteen : (P : ℕ → Type 0) → P 0 → P 1 → P 2 → P 3 → P 4 → P 5 → P 6 → P 7 → P 8 → P 9 → P 10 → P 11 → P 12 → P 13 → P 14 → (k : ℕ) → k < 15 → P k
-fifteen P a b c d e f g h i j l m n o q zero _ = a
-fifteen P a b c d e f g h i j l m n o q (suc zero) _ = b
-fifteen P a b c d e f g h i j l m n o q (suc (suc zero)) _ = c
-fifteen P a b c d e f g h i j l m n o q (suc (suc (suc zero))) _ = d
-fifteen P a b c d e f g h i j l m n o q (suc (suc (suc (suc zero)))) _ = e
-fifteen P a b c d e f g h i j l m n o q (suc (suc (suc (suc (suc zero))))) _ = f
-fifteen P a b c d e f g h i j l m n o q (suc (suc (suc (suc (suc (suc zero)))))) _ = g
-fifteen P a b c d e f g h i j l m n o q (suc (suc (suc (suc (suc (suc (suc zero))))))) _ = h
-fifteen P a b c d e f g h i j l m n o q (suc (suc (suc (suc (suc (suc (suc (suc zero)))))))) _ = i
-fifteen P a b c d e f g h i j l m n o q (suc (suc (suc (suc (suc (suc (suc (suc (suc zero))))))))) _ = j
-fifteen P a b c d e f g h i j l m n o q (suc (suc (suc (suc (suc (suc (suc (suc (suc (suc zero)))))))))) _ = l
-fifteen P a b c d e f g h i j l m n o q (suc (suc (suc (suc (suc (suc (suc (suc (suc (suc (suc zero))))))))))) _ = m
-fifteen P a b c d e f g h i j l m n o q (suc (suc (suc (suc (suc (suc (suc (suc (suc (suc (suc (suc zero)))))))))))) _ = n
-fifteen P a b c d e f g h i j l m n o q (suc (suc (suc (suc (suc (suc (suc (suc (suc (suc (suc (suc (suc zero))))))))))))) _ = o
-fifteen P a b c d e f g h i j l m n o q (suc (suc (suc (suc (suc (suc (suc (suc (suc (suc (suc (suc (suc (suc zero)))))))))))))) _ = q
-fifteen P a b c d e f g h i j l m n o q (suc (suc (suc (suc (suc (suc (suc (suc (suc (suc (suc (suc (suc (suc (suc k))))))))))))))) less = absurd (omega arith)
+sixteen : (P : ℕ → Type 0) → P 0 → P 1 → P 2 → P 3 → P 4 → P 5 → P 6 → P 7 → P 8 → P 9 → P 10 → P 11 → P 12 → P 13 → P 14 → P 15 → (k : ℕ) → k < 16 → P k
+sixteen P a b c d e f g h i j l m n o q t zero _ = a
+sixteen P a b c d e f g h i j l m n o q t (suc zero) _ = b
+sixteen P a b c d e f g h i j l m n o q t (suc (suc zero)) _ = c
+sixteen P a b c d e f g h i j l m n o q t (suc (suc (suc zero))) _ = d
+sixteen P a b c d e f g h i j l m n o q t (suc (suc (suc (suc zero)))) _ = e
+sixteen P a b c d e f g h i j l m n o q t (suc (suc (suc (suc (suc zero))))) _ = f
+sixteen P a b c d e f g h i j l m n o q t (suc (suc (suc (suc (suc (suc zero)))))) _ = g
+sixteen P a b c d e f g h i j l m n o q t (suc (suc (suc (suc (suc (suc (suc zero))))))) _ = h
+sixteen P a b c d e f g h i j l m n o q t (suc (suc (suc (suc (suc (suc (suc (suc zero)))))))) _ = i
+sixteen P a b c d e f g h i j l m n o q t (suc (suc (suc (suc (suc (suc (suc (suc (suc zero))))))))) _ = j
+sixteen P a b c d e f g h i j l m n o q t (suc (suc (suc (suc (suc (suc (suc (suc (suc (suc zero)))))))))) _ = l
+sixteen P a b c d e f g h i j l m n o q t (suc (suc (suc (suc (suc (suc (suc (suc (suc (suc (suc zero))))))))))) _ = m
+sixteen P a b c d e f g h i j l m n o q t (suc (suc (suc (suc (suc (suc (suc (suc (suc (suc (suc (suc zero)))))))))))) _ = n
+sixteen P a b c d e f g h i j l m n o q t (suc (suc (suc (suc (suc (suc (suc (suc (suc (suc (suc (suc (suc zero))))))))))))) _ = o
+sixteen P a b c d e f g h i j l m n o q t (suc (suc (suc (suc (suc (suc (suc (suc (suc (suc (suc (suc (suc (suc zero)))))))))))))) _ = q
+sixteen P a b c d e f g h i j l m n o q t (suc (suc (suc (suc (suc (suc (suc (suc (suc (suc (suc (suc (suc (suc (suc zero))))))))))))))) _ = t
+sixteen P a b c d e f g h i j l m n o q t (suc (suc (suc (suc (suc (suc (suc (suc (suc (suc (suc (suc (suc (suc (suc (suc k)))))))))))))))) less = absurd (omega arith)
+
+-- a move's error that is not 0 is written
+error-some : (e : ℕ) → 0 < e → errorText e ≡ digitsOf e ∷ []
+error-some zero h = absurd (omega arith)
+error-some (suc e) h = refl
+
+abbrev positiveFits : ℕ → Bool
+positiveFits v = ltb 0 v && ltb v 10000000000
 
 record Says (k : ℕ) (values : List ℕ) : Type 0 where
   text : fill (formAt stepForms k) values ≡ actionText (rowOf (stepFrom k values))
@@ -166,10 +175,10 @@ module _ (a b c d e f : ℕ) where
   abbrev pub six : List ℕ
   six = a ∷ b ∷ c ∷ d ∷ e ∷ f ∷ []
 
-  six-say : (k : ℕ) → k < 15 → valuesFit (formAt stepForms k) six ≡ true → Says k six
+  six-say : (k : ℕ) → k < 16 → valuesFit (formAt stepForms k) six ≡ true → Says k six
   unfolding actionText fill itemText textBy formAt linesIn stepForms valuesFit fitsBy isSlot kindOf lookup
   six-say =
-      fifteen (λ k. valuesFit (formAt stepForms k) six ≡ true → Says k six)
+      sixteen (λ k. valuesFit (formAt stepForms k) six ≡ true → Says k six)
       (λ h. record { text = refl; writable = two-of a b h; numbers = (refl, refl, refl) })
       (λ h. record { text = refl; writable = two-of a b h; numbers = (refl, refl, refl) })
       (λ h. record { text = refl; writable = two-of a b h; numbers = (refl, refl, refl) })
@@ -186,8 +195,8 @@ module _ (a b c d e f : ℕ) where
       let r = both (signedFits c) true (q .1) in
       record {
         text = rw (held b (q .0) .text, held c (r .0) .text);
-        writable = (p .0, held b (q .0) .short, held c (r .0) .short);
-        numbers = (refl, refl, refl, refl);
+        writable = (p .0, held b (q .0) .short, held c (r .0) .short, omega arith);
+        numbers = (refl, refl, refl, refl, refl);
       })
       (λ h. record { text = refl; writable = one-of a true h .0; numbers = (refl, refl) })
       (λ h. record { text = refl; writable = one-of a true h .0; numbers = (refl, refl) })
@@ -196,6 +205,16 @@ module _ (a b c d e f : ℕ) where
       let q = three-of b c d (p .1) in
       record { text = refl; writable = (p .0, q .0, q .1, q .2); numbers = (refl, refl, refl, refl, refl) })
       (λ h. record { text = refl; writable = three-of a b c h; numbers = (refl, refl, refl, refl) })
+      (λ h.
+      let p = one-of a (signedFits b && (signedFits c && (positiveFits d && true))) h in
+      let q = both (signedFits b) (signedFits c && (positiveFits d && true)) (p .1) in
+      let r = both (signedFits c) (positiveFits d && true) (q .1) in
+      let m = both (ltb 0 d) (ltb d 10000000000) (both (positiveFits d) true (r .1) .0) in
+      record {
+        text = rw (held b (q .0) .text, held c (r .0) .text, error-some d (ltb-true 0 d (m .0)));
+        writable = (p .0, held b (q .0) .short, held c (r .0) .short, ltb-true d 10000000000 (m .1));
+        numbers = (refl, refl, refl, refl, refl);
+      })
 
 six-of : (v : List ℕ) → length v ≡ 6 → v ≡ six (getD v 0 0) (getD v 1 0) (getD v 2 0) (getD v 3 0) (getD v 4 0) (getD v 5 0)
 six-of [] h = absurd (omega arith)
@@ -207,15 +226,20 @@ six-of (a ∷ b ∷ c ∷ d ∷ e ∷ []) h = absurd (omega arith)
 six-of (a ∷ b ∷ c ∷ d ∷ e ∷ f ∷ []) h = refl
 six-of (a ∷ b ∷ c ∷ d ∷ e ∷ f ∷ g ∷ l) h = absurd (omega arith)
 
-values-say : (k : ℕ) (v : List ℕ) → k < 15 → length v ≡ 6 → valuesFit (formAt stepForms k) v ≡ true → Says k v
+values-say : (k : ℕ) (v : List ℕ) → k < 16 → length v ≡ 6 → valuesFit (formAt stepForms k) v ≡ true → Says k v
 values-say k v l s h =
     subst⁻¹ (Says k) (six-of v s)
     (six-say (getD v 0 0) (getD v 1 0) (getD v 2 0) (getD v 3 0) (getD v 4 0) (getD v 5 0) k l (subst (λ (x : List ℕ). valuesFit (formAt stepForms k) x ≡ true) (six-of v s) h))
 
 -- ---- and each row's line is a form with values
 
+-- 2026-04: a move whose error is 0 has it left out
+abbrev pub moveForm : ℕ → ℕ
+moveForm zero = 10
+moveForm (suc e) = 15
+
 abbrev pub formOf : Action → ℕ
-formOf Malformed = 15
+formOf Malformed = 16
 formOf (Assign u r) = 0
 formOf (Withdraw u r) = 1
 formOf (Grant r p) = 2
@@ -226,7 +250,7 @@ formOf (Deactivate s r) = 6
 formOf (Access s p o) = 7
 formOf (Finish o) = 8
 formOf (Close s) = 9
-formOf (Move s point) = 10
+formOf (Move s point) = moveForm (point .error)
 formOf (Lost s) = 11
 formOf (Clock t) = 12
 formOf (Lend u v r t) = 13
@@ -244,7 +268,7 @@ valuesOf (Deactivate s r) = six s r 0 0 0 0
 valuesOf (Access s p o) = six s p o 0 0 0
 valuesOf (Finish o) = six o 0 0 0 0 0
 valuesOf (Close s) = six s 0 0 0 0 0
-valuesOf (Move s point) = six s (signedCode (point .x)) (signedCode (point .y)) 0 0 0
+valuesOf (Move s point) = six s (signedCode (point .x)) (signedCode (point .y)) (point .error) 0 0
 valuesOf (Lost s) = six s 0 0 0 0 0
 valuesOf (Clock t) = six t 0 0 0 0 0
 valuesOf (Lend u v r t) = six u v r t 0 0
@@ -252,7 +276,7 @@ valuesOf (Recall u v r) = six u v r 0 0 0
 
 -- the form is there, the values fit and are read back, and they say the row
 record FormOf (action : Action) : Type 0 where
-  there : formOf action < 15
+  there : formOf action < 16
   sixValues : length (valuesOf action) ≡ 6
   fits : valuesFit (formAt stepForms (formOf action)) (valuesOf action) ≡ true
   back : sets (replicate 6 0) 0 (valuesIn (formAt stepForms (formOf action)) (valuesOf action)) ≡ valuesOf action
@@ -281,14 +305,25 @@ form-of (Deactivate s r) w = record { there = omega arith; sixValues = refl; fit
 form-of (Access s p o) w = record { there = omega arith; sixValues = refl; fits = three-fit s p o (w .0) (w .1) (w .2); back = refl; row = refl }
 form-of (Finish o) w = record { there = omega arith; sixValues = refl; fits = one-fits o 0 w; back = refl; row = refl }
 form-of (Close s) w = record { there = omega arith; sixValues = refl; fits = one-fits s 0 w; back = refl; row = refl }
-form-of (Move s point) w =
-    record {
-      there = omega arith;
-      sixValues = refl;
-      fits = rw (lt-ltb s 10000000000 (w .0), code-fits (point .x) (w .1), code-fits (point .y) (w .2));
-      back = refl;
-      row = rw (value-back (point .x) (w .1), value-back (point .y) (w .2));
-    }
+form-of (Move s point) w = go (point .error) refl
+  where
+    go : (e : ℕ) → point .error ≡ e → FormOf (Move s point)
+    go zero left-out =
+        record {
+          there = rw left-out (omega arith);
+          sixValues = refl;
+          fits = rw (left-out, lt-ltb s 10000000000 (w .0), code-fits (point .x) (w .1), code-fits (point .y) (w .2));
+          back = rw left-out;
+          row = rw (left-out, value-back (point .x) (w .1), value-back (point .y) (w .2));
+        }
+    go (suc e) written-out =
+        record {
+          there = rw written-out (omega arith);
+          sixValues = refl;
+          fits = rw (written-out, lt-ltb s 10000000000 (w .0), code-fits (point .x) (w .1), code-fits (point .y) (w .2), lt-ltb 0 (suc e) (omega arith), lt-ltb (suc e) 10000000000 (rw written-out at (w .3)));
+          back = rw written-out;
+          row = rw (written-out, value-back (point .x) (w .1), value-back (point .y) (w .2));
+        }
 form-of (Lost s) w = record { there = omega arith; sixValues = refl; fits = one-fits s 0 w; back = refl; row = refl }
 form-of (Clock t) w = record { there = omega arith; sixValues = refl; fits = one-fits t 0 w; back = refl; row = refl }
 form-of (Lend u v r t) w =
@@ -317,10 +352,12 @@ writes step (Finish o) = (λ w. ((w .0, w .1), omega arith), λ w. (w .0 .0, w .
 writes step (Close s) = (λ w. ((w .0, w .1), omega arith), λ w. (w .0 .0, w .0 .1, omega arith))
 writes step (Move s point) = (
   λ w.
-      let p = both (onGrid (point .x)) (onGrid (point .y)) (w .5) in
-      ((w .0, w .1, w .2, w .3), (omega arith, grid (point .x) .0 (p .0), grid (point .y) .0 (p .1))),
+      let r = both (onGrid (point .x) && onGrid (point .y)) (leb (point .error) 1000) (w .6) in
+      let p = both (onGrid (point .x)) (onGrid (point .y)) (r .0) in
+      ((w .0, w .1, w .2, w .3, w .4), (omega arith, grid (point .x) .0 (p .0), grid (point .y) .0 (p .1), leb-true (point .error) 1000 (r .1))),
   λ w.
-      (w .0 .0, w .0 .1, w .0 .2, w .0 .3, omega arith, both-true (onGrid (point .x)) (onGrid (point .y)) (grid (point .x) .1 (w .1 .1)) (grid (point .y) .1 (w .1 .2))),
+      let p = both-true (onGrid (point .x)) (onGrid (point .y)) (grid (point .x) .1 (w .1 .1)) (grid (point .y) .1 (w .1 .2)) in
+      (w .0 .0, w .0 .1, w .0 .2, w .0 .3, w .0 .4, omega arith, both-true (onGrid (point .x) && onGrid (point .y)) (leb (point .error) 1000) p (le-leb (point .error) 1000 (w .1 .3))),
 )
 writes step (Lost s) = (λ w. ((w .0, w .1), omega arith), λ w. (w .0 .0, w .0 .1, omega arith))
 writes step (Clock t) = (λ w. ((w .0, w .1), w .2), λ w. (w .0 .0, w .0 .1, w .1))
@@ -367,7 +404,7 @@ good-row text line good = go (eqb (found stepForms text .form) formCount) refl g
           says .numbers,
         )
 
-after-found : (form : ℕ) (values : List ℕ) (size : ℕ) → form < 15 → lineAfter (record { form = form; values = values; length = size }) ≡ Good (lineFrom form values size)
+after-found : (form : ℕ) (values : List ℕ) (size : ℕ) → form < 16 → lineAfter (record { form = form; values = values; length = size }) ≡ Good (lineFrom form values size)
 unfolding lineAfter
 after-found form values size h = rw (ne-eqb form formCount (λ e. omega arith))
 

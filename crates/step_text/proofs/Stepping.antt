@@ -37,7 +37,7 @@ forms-counted = refl
 
 -- the index that the code has is the table's
 abbrev pub stepStarts : List ℕ
-stepStarts = 0 ∷ 13 ∷ 28 ∷ 40 ∷ 51 ∷ 62 ∷ 77 ∷ 94 ∷ 109 ∷ 120 ∷ 130 ∷ 143 ∷ 152 ∷ 162 ∷ 177 ∷ 192 ∷ []
+stepStarts = 0 ∷ 13 ∷ 28 ∷ 40 ∷ 51 ∷ 62 ∷ 77 ∷ 94 ∷ 109 ∷ 120 ∷ 130 ∷ 143 ∷ 152 ∷ 162 ∷ 177 ∷ 192 ∷ 207 ∷ []
 
 pub index-right : stepStarts ≡ startsOf stepForms
 unfolding stepForms startsOf linesIn

@@ -32,19 +32,29 @@ stepForms =
     -- 2026-01: "Step `lend u v r t`", "`recall u v r`"
     ++ bytes "(lend ? ? ? ?)\n"
     ++ bytes "(recall ? ? ?)\n"
+    -- 2026-04: "`move` .. take a fourth number e, 1 to 1000"
+    ++ bytes "(move ? _ _ `)\n"
 
 abbrev pub formCount : ℕ
-formCount = 15
+formCount = 16
 
--- the kind is the form's number; numbers that a kind does not use are not looked at
+-- the kind is the form's number, and the last form is a move's too
+abbrev pub kindFrom : ℕ → ℕ
+kindFrom form = cond (eqb form 15) 10 form
+
+-- 2026-04: e "left out means 0"
+abbrev pub fourthFrom : ℕ → ℕ → ℕ
+fourthFrom form value = cond (eqb form 10) 0 value
+
+-- numbers that a kind does not use are not looked at
 abbrev pub stepFrom : ℕ → List ℕ → Step
 stepFrom form values =
     record {
-      kind = form;
+      kind = kindFrom form;
       first = getD values 0 0;
       second = getD values 1 0;
       third = getD values 2 0;
-      fourth = getD values 3 0;
+      fourth = fourthFrom form (getD values 3 0);
       x = signedValue (getD values 1 0);
       y = signedValue (getD values 2 0);
     }

@@ -1,7 +1,7 @@
 -- Document 01, 'State and steps' and 'Texts': the table of steps, a row for each kind: its line as bytes, its kind's number and its
 -- numbers, and their ranges. The table of forms is not used: that reading goes by these rows is proved in proofs/Rows.antt.
 -- Assumes nothing.
-use Prim.Native.Nat.{ℕ, suc, _≤_, _<_}
+use Prim.Native.Nat.{ℕ, zero, suc, _≤_, _<_}
 use Prim.Native.String.{String}
 use mathlib.Core.Path.{_≡_}
 use mathlib.Core.List.{List, [], _∷_, _++_}
@@ -27,6 +27,11 @@ spaced (number ∷ numbers) = bytes " " ++ (number ++ spaced numbers)
 abbrev pub lineWith : String → List (List ℕ) → List ℕ
 lineWith name numbers = bytes "(" ++ (bytes name ++ spaced numbers)
 
+-- 2026-04: "left out means 0"
+abbrev pub errorText : ℕ → List (List ℕ)
+errorText zero = []
+errorText (suc e) = digitsOf (suc e) ∷ []
+
 -- the table's first column, with any numbers
 unfoldable pub actionText : Action → List ℕ
 actionText Malformed = []
@@ -40,7 +45,7 @@ actionText (Deactivate s r) = lineWith "deactivate" (digitsOf s ∷ digitsOf r �
 actionText (Access s p o) = lineWith "access" (digitsOf s ∷ digitsOf p ∷ digitsOf o ∷ [])
 actionText (Finish o) = lineWith "finish" (digitsOf o ∷ [])
 actionText (Close s) = lineWith "close" (digitsOf s ∷ [])
-actionText (Move s point) = lineWith "move" (digitsOf s ∷ integerText (point .x) ∷ integerText (point .y) ∷ [])
+actionText (Move s point) = lineWith "move" (digitsOf s ∷ integerText (point .x) ∷ integerText (point .y) ∷ errorText (point .error))
 actionText (Lost s) = lineWith "lost" (digitsOf s ∷ [])
 actionText (Clock t) = lineWith "clock" (digitsOf t ∷ [])
 -- 2026-01: "Step `lend u v r t`", "`recall u v r`"
@@ -69,7 +74,7 @@ Writable (Deactivate s r) = TenDigits s × TenDigits r
 Writable (Access s p o) = TenDigits s × TenDigits p × TenDigits o
 Writable (Finish o) = TenDigits o
 Writable (Close s) = TenDigits s
-Writable (Move s point) = TenDigits s × TenDigits (amount (point .x)) × TenDigits (amount (point .y))
+Writable (Move s point) = TenDigits s × TenDigits (amount (point .x)) × TenDigits (amount (point .y)) × TenDigits (point .error)
 Writable (Lost s) = TenDigits s
 Writable (Clock t) = TenDigits t
 Writable (Lend u v r t) = TenDigits u × TenDigits v × TenDigits r × TenDigits t
@@ -89,14 +94,14 @@ HasNumbers step (Deactivate s r) = (step .kind ≡ 6) × (step .first ≡ s) × 
 HasNumbers step (Access s p o) = (step .kind ≡ 7) × (step .first ≡ s) × (step .second ≡ p) × (step .third ≡ o)
 HasNumbers step (Finish o) = (step .kind ≡ 8) × (step .first ≡ o)
 HasNumbers step (Close s) = (step .kind ≡ 9) × (step .first ≡ s)
-HasNumbers step (Move s point) = (step .kind ≡ 10) × (step .first ≡ s) × (step .x ≡ point .x) × (step .y ≡ point .y)
+HasNumbers step (Move s point) = (step .kind ≡ 10) × (step .first ≡ s) × (step .x ≡ point .x) × (step .y ≡ point .y) × (step .fourth ≡ point .error)
 HasNumbers step (Lost s) = (step .kind ≡ 11) × (step .first ≡ s)
 HasNumbers step (Clock t) = (step .kind ≡ 12) × (step .first ≡ t)
 HasNumbers step (Lend u v r t) = (step .kind ≡ 13) × (step .first ≡ u) × (step .second ≡ v) × (step .third ≡ r) × (step .fourth ≡ t)
 HasNumbers step (Recall u v r) = (step .kind ≡ 14) × (step .first ≡ u) × (step .second ≡ v) × (step .third ≡ r)
 
 -- ---- "Users u 0 to 63, roles r 0 to 31, permissions p 0 to 31, sessions s 0 to 31, objects o 0 to 31 .. Time t: .. 0 to 3,155,759,999.
--- x, y: whole metres on the farm grid, -1,000,000 to 1,000,000."
+-- x, y: whole metres on the farm grid, -1,000,000 to 1,000,000."; 2026-04: "a fourth number e, 1 to 1000; left out means 0"
 
 abbrev pub ActionInRange : Action → Type 0
 ActionInRange Malformed = ⊥
@@ -110,7 +115,7 @@ ActionInRange (Deactivate s r) = (s ≤ 31) × (r ≤ 31)
 ActionInRange (Access s p o) = (s ≤ 31) × (p ≤ 31) × (o ≤ 31)
 ActionInRange (Finish o) = o ≤ 31
 ActionInRange (Close s) = s ≤ 31
-ActionInRange (Move s point) = (s ≤ 31) × (amount (point .x) ≤ 1000000) × (amount (point .y) ≤ 1000000)
+ActionInRange (Move s point) = (s ≤ 31) × (amount (point .x) ≤ 1000000) × (amount (point .y) ≤ 1000000) × (point .error ≤ 1000)
 ActionInRange (Lost s) = s ≤ 31
 ActionInRange (Clock t) = t ≤ 3155759999
 ActionInRange (Lend u v r t) = (u ≤ 63) × (v ≤ 63) × (r ≤ 31) × (t ≤ 3155759999)

@@ -1,10 +1,11 @@
 // A step's line.
 ghost use mathlib.Core.Path.{_≡_};
-ghost use Rattle.step_text.specs.Lines.{readStep};
+ghost use Rattle.step_text.specs.Lines.{readStep, kindFrom, fourthFrom};
 use steps::Step;
 
-// "One form a line", in the order of the table of steps, lend and recall after them; each mark stands for a number of its kind.
-const FORMS: [u8; 192] = *b"\
+// "One form a line", in the order of the table of steps, lend and recall after them, and last a move with its error; each mark stands for
+// a number of its kind.
+const FORMS: [u8; 207] = *b"\
 (assign ? ?)\n\
 (withdraw ? ?)\n\
 (grant ? ?)\n\
@@ -19,12 +20,18 @@ const FORMS: [u8; 192] = *b"\
 (lost ?)\n\
 (clock ?)\n\
 (lend ? ? ? ?)\n\
-(recall ? ? ?)\n";
+(recall ? ? ?)\n\
+(move ? _ _ `)\n";
 
-const FORM_COUNT: usize = 15;
+const FORM_COUNT: usize = 16;
+
+// The two forms of a move, without and with its error.
+const MOVE: usize = 10;
+
+const MOVE_WITH_ERROR: usize = 15;
 
 // Where each form starts, and where the last one ends.
-const STARTS: [usize; 16] = [
+const STARTS: [usize; 17] = [
     0,
     13,
     28,
@@ -41,6 +48,7 @@ const STARTS: [usize; 16] = [
     162,
     177,
     192,
+    207,
 ];
 
 // A good line: its step, and how many bytes it has.
@@ -65,11 +73,11 @@ pub fn read_step(text: &[u8]) -> StepRead
     }
     let values = found.values;
     let step = Step {
-        kind: form as u64,
+        kind: kind_of(form),
         first: values[0],
         second: values[1],
         third: values[2],
-        fourth: values[3],
+        fourth: fourth_of(form, values[3]),
         x: forms::signed_value(values[1]),
         y: forms::signed_value(values[2]),
     };
@@ -79,7 +87,28 @@ pub fn read_step(text: &[u8]) -> StepRead
     })
 }
 
-// Which form a step's line likely has, by the third and fourth letters of its word. A wrong guess costs time and nothing else.
+// A form's number is its kind's, but for the second form of a move.
+fn kind_of(form: usize) -> u64
+    ensures { λ r. ⌜ r ≡ kindFrom form ⌝ }
+{
+    if form == MOVE_WITH_ERROR {
+        return Step::MOVE;
+    }
+    form as u64
+}
+
+// A move's error is 0 where it is left out.
+fn fourth_of(form: usize, value: u64) -> u64
+    ensures { λ r. ⌜ r ≡ fourthFrom form value ⌝ }
+{
+    if form == MOVE {
+        return 0;
+    }
+    value
+}
+
+// Which form a step's line likely has, by the third and fourth letters of its word, and a move's by its spaces. A wrong guess costs time
+// and nothing else.
 fn likely_form(text: &[u8]) -> usize {
     let fourth = byte_at(text, 4);
     match byte_at(text, 3) {
@@ -91,8 +120,25 @@ fn likely_form(text: &[u8]) -> usize {
         b'o' => first_or(fourth == b's', 9, 12),
         b's' => first_or(fourth == b'i', 0, 11),
         b't' => first_or(fourth == b'i', 5, 1),
-        _ => 10,
+        _ => first_or(spaces_in_line(text) == 4, MOVE_WITH_ERROR, MOVE),
     }
+}
+
+// The spaces of the first line, as far as a move can reach.
+fn spaces_in_line(text: &[u8]) -> usize {
+    let mut count: usize = 0;
+    let mut i: usize = 0;
+    while i < 40 {
+        let byte = byte_at(text, i);
+        if byte == b'\n' {
+            return count;
+        }
+        if byte == b' ' {
+            count += 1;
+        }
+        i += 1;
+    }
+    count
 }
 
 fn first_or(is_first: bool, first: usize, second: usize) -> usize {

@@ -60,6 +60,7 @@ digits-more (suc bound) v w b h = go (ltb v 10) refl (digits-more bound (v / 10)
 unfoldable widestBy : Syntax → ℕ → ℕ
 widestBy syntax.Literal high = 1
 widestBy syntax.Number high = length (digitsOf high)
+widestBy syntax.Positive high = length (digitsOf high)
 widestBy syntax.Signed high = suc (length (digitsOf high))
 widestBy syntax.Date high = 8
 widestBy syntax.TimeOfDay high = 4
@@ -68,6 +69,7 @@ by-syntax : (x : Syntax) (low high c v : ℕ) → inRangeBy x low high v ≡ tru
 unfolding textBy inRangeBy widestBy signedOf amountOf
 by-syntax syntax.Literal low high c v h = omega arith
 by-syntax syntax.Number low high c v h = digits-more high v high (omega arith) (leb-true v high (both (leb low v) (leb v high) h .1))
+by-syntax syntax.Positive low high c v h = digits-more high v high (omega arith) (leb-true v high (both (leb low v) (leb v high) h .1))
 by-syntax syntax.Signed low high c v h = go (ltb 10000000000 v) h
   where
     go : (b : Bool) → leb (cond b (v - 10000000000) v) high ≡ true → length (cond b (45 ∷ digitsOf (v - 10000000000)) (digitsOf v)) ≤ suc (length (digitsOf high))

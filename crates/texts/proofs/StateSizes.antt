@@ -1,6 +1,6 @@
--- A saved state has at most 997,821 bytes, and one state has as many. Assumes nothing.
+-- A saved state has at most 997,981 bytes, and one state has as many. Assumes nothing.
 use mathlib.Core.Path.{_≡_, refl, sym, ap, _∙_, subst}
-use mathlib.Core.Bool.{Bool, true, false, _&&_}
+use mathlib.Core.Bool.{Bool, true, false, cond, _&&_}
 use mathlib.Core.Logic.{⊎-elim}
 use mathlib.Core.List.{List, [], _∷_, _++_, map, List·Memᴰ, List·Memᴰ·not-nil, List·Memᴰ·append-cases, List·Memᴰ·eq-of-singleton}
 use Prim.Native.Nat.{ℕ, zero, suc, _+_, _-_, _*_, _≤_, _<_}
@@ -8,7 +8,7 @@ use native.Mathlib.Nat.{le-trans, min-le-left}
 use native.Mathlib.Omega.{arith}
 use lib.ListN.{length, getD, set, replicate, getD-replicate, length-replicate, length-set, length-take}
 use lib.Seq.{getD-set-same, getD-set-other}
-use lib.Dec.{ltb, leb}
+use lib.Dec.{ltb, leb, eqb}
 use lib.IntN.{ℤ, pos, negsuc}
 use borrow.Author.Tests.{lt-ltb, le-ltb, ltb-true, ltb-false, lt-leb, leb-true}
 use Rattle.sets.specs.Sets.{member, all}
@@ -16,6 +16,7 @@ use Rattle.sets.proofs.Bounded.{all-of, of-all}
 use Rattle.sets.proofs.Booleans.{both, both-true, clash}
 use Rattle.sets.proofs.Members.{member-empty}
 use Rattle.places.specs.Places.{onGrid, pointInRange, positionInRange}
+use Rattle.places.specs.declared.Point.{Point}
 use Rattle.places.specs.declared.Position.{Position}
 use Rattle.places.specs.declared.Position.the-variants.{Unknown, Known}
 use Rattle.rules.specs.Families.{wordAt, hasRole, sessionAt, permissionsOf, usersWho}
@@ -39,12 +40,12 @@ use Rattle.rule_text.specs.Lines.{listText}
 use Rattle.rule_text.specs.Reading.{listOf}
 use Rattle.rule_text.proofs.Slots.{rules-of-list, list-accepted}
 use Rattle.state_text.specs.Entries.{lineText}
-use Rattle.state_text.specs.Saving.{over, only, loanLine, placeLines, sessionLines, linesOf, savedText}
+use Rattle.state_text.specs.Saving.{over, only, loanLine, placeLine, placeLines, sessionLines, linesOf, savedText}
 use Rattle.state_text.specs.Parts.{width}
 use Rattle.state_text.specs.declared.entries.Entry.{Entry}
-use Rattle.state_text.specs.declared.entries.Entry.the-variants.{Now, Assigned, Granted, Open, Place, Active, Did}
+use Rattle.state_text.specs.declared.entries.Entry.the-variants.{Now, Assigned, Granted, Open, Place, Active, Did, PlaceWithError}
 use Rattle.state_text.proofs.JoinedLines.{text-none, text-one}
-use Rattle.state_text.proofs.LineSizes.{digits-width, width-most, now-bytes, place-bytes, assigned-size, granted-size, loan-size, open-size, active-size, did-size}
+use Rattle.state_text.proofs.LineSizes.{digits-width, width-most, now-bytes, place-bytes, error-bytes, assigned-size, granted-size, loan-size, open-size, active-size, did-size}
 use Rattle.state_text.proofs.Keeping.{time-accepted, open-ranged, position-ranged}
 use Rattle.state_text.proofs.RoundTrips.{good-back}
 use Rattle.texts.specs.Sizes.{farthest, longestLoan, longestLoans, fullest}
@@ -65,7 +66,7 @@ module _ (R : ℕ → ℕ → Type 0) (summing : Summing R) where
     lent : R (bytesOf (assignedLines (assignedRole s)) + bytesOf (map loanLine (loansOf s))) 34176
     granted : (r p : ℕ) → r < 32 → p < 32 → R (bytesOf (only (carries s r p) (Granted r p))) (12 + (width r + width p))
     opened : (i : ℕ) → i < 32 → R (bytesOf (only (isOpen s i) (Open i (userOf s i)))) (11 + width i)
-    placed : (i : ℕ) → i < 32 → R (bytesOf (placeLines i (positionOf s i))) (27 + width i)
+    placed : (i : ℕ) → i < 32 → R (bytesOf (placeLines i (positionOf s i))) (32 + width i)
     activated : (i r : ℕ) → i < 32 → r < 32 → R (bytesOf (only (activeRole s i r) (Active i r))) (11 + (width i + width r))
     done : (o p u : ℕ) → o < 32 → p < 32 → u < 64 → R (bytesOf (only (did s o p u) (Did o p u))) (9 + (width o + (width p + width u)))
 
@@ -77,7 +78,7 @@ module _ (R : ℕ → ℕ → Type 0) (summing : Summing R) where
         (λ r hr. to R summing (omega (arith, widths-32))
         (over-sum R summing 32 (12 + width r) 1 (λ p. only (carries s r p) (Granted r p)) (λ p hp. to R summing (omega arith) (lines .granted r p hr hp)))))
 
-    one-session : (i : ℕ) → i < 32 → R (bytesOf (sessionLines s i)) (444 + 34 * width i)
+    one-session : (i : ℕ) → i < 32 → R (bytesOf (sessionLines s i)) (449 + 34 * width i)
     unfolding sessionLines
     one-session i h =
         to R summing (omega (arith, widths-32))
@@ -98,7 +99,7 @@ module _ (R : ℕ → ℕ → Type 0) (summing : Summing R) where
     lent-first : (a b c d e : List Entry) → bytesOf (a ++ (b ++ (c ++ (d ++ e)))) ≡ (bytesOf b + bytesOf d) + bytesOf (a ++ (c ++ e))
     lent-first a b c d e = simp bytes-append (omega arith)
 
-    state-sum : R (length (savedText s)) 997821
+    state-sum : R (length (savedText s)) 997981
     unfolding savedText linesOf
     state-sum =
         let granted = over 32 (λ r. over 32 (λ p. only (carries s r p) (Granted r p))) in
@@ -107,7 +108,7 @@ module _ (R : ℕ → ℕ → Type 0) (summing : Summing R) where
         (summing .add _ _ _ _ (lines .lent)
         (joined R summing (Now (s .time) ∷ []) _ (lines .now)
         (joined R summing granted _ all-granted
-        (joined R summing (over 32 (sessionLines s)) _ (over-sum R summing 32 444 34 (sessionLines s) one-session) all-done)))))
+        (joined R summing (over 32 (sessionLines s)) _ (over-sum R summing 32 449 34 (sessionLines s) one-session) all-done)))))
 
 -- ---- enough
 
@@ -121,12 +122,30 @@ coordinate-most (negsuc n) h =
     let e : 10000000001 + n - 10000000000 ≡ suc n = omega arith in
     rw (lt-ltb 10000000000 (10000000001 + n) (omega arith), e) (omega (arith, digits-length 6 (suc n) (omega arith)))
 
-place-most : (i : ℕ) (p : Position) → i < 32 → positionInRange p ≡ true → bytesOf (placeLines i p) ≤ 27 + width i
-unfolding positionInRange pointInRange
+place-line-most : (i : ℕ) (point : Point) → i < 32 → pointInRange point ≡ true → length (lineText (placeLine i point)) ≤ 32 + width i
+unfolding pointInRange placeLine
+place-line-most i point l h = go (eqb (point .error) 0)
+  where
+    parts : ((onGrid (point .x) && onGrid (point .y)) ≡ true) × (leb (point .error) 1000 ≡ true)
+    parts = both (onGrid (point .x) && onGrid (point .y)) (leb (point .error) 1000) h
+
+    across : length (signedOf (signedCode (point .x))) ≤ 8
+    across = coordinate-most (point .x) (both (onGrid (point .x)) (onGrid (point .y)) (parts .0) .0)
+
+    up : length (signedOf (signedCode (point .y))) ≤ 8
+    up = coordinate-most (point .y) (both (onGrid (point .x)) (onGrid (point .y)) (parts .0) .1)
+
+    error : length (digitsOf (point .error)) ≤ 4
+    error = let most = leb-true (point .error) 1000 (parts .1) in digits-length 3 (point .error) (omega arith)
+
+    go : (b : Bool) → length (lineText (cond b (Place i (point .x) (point .y)) (PlaceWithError i (point .x) (point .y) (point .error)))) ≤ 32 + width i
+    go true = omega (arith, place-bytes i (point .x) (point .y), digits-width i (omega arith), across, up)
+    go false = omega (arith, error-bytes i (point .x) (point .y) (point .error), digits-width i (omega arith), across, up, error)
+
+place-most : (i : ℕ) (p : Position) → i < 32 → positionInRange p ≡ true → bytesOf (placeLines i p) ≤ 32 + width i
+unfolding positionInRange
 place-most i Unknown l h = rw text-none (omega arith)
-place-most i (Known point) l h =
-    let g = both (onGrid (point .x)) (onGrid (point .y)) h in
-    rw (text-one (Place i (point .x) (point .y))) (omega (arith, place-bytes i (point .x) (point .y), digits-width i (omega arith), coordinate-most (point .x) (g .0), coordinate-most (point .y) (g .1)))
+place-most i (Known point) l h = rw (text-one (placeLine i point)) (place-line-most i point l h)
 
 module _ (s : State) (accepted : stateAccepted s ≡ true) where
   loans-accepted : loansAccepted (s .loans) ≡ true
@@ -143,7 +162,7 @@ module _ (s : State) (accepted : stateAccepted s ≡ true) where
       (le-trans taken (leb-true (s .loans .count) 32 (parts .0)), parts .1)
 
   -- no state that 40 does not refuse, and whose loans run as they were lent, has a longer text
-  pub state-most : Lending s → length (savedText s) ≤ 997821
+  pub state-most : Lending s → length (savedText s) ≤ 997981
   state-most lending =
       let borrowing : Borrowing (assignedRole s) (loansOf s) = record { unassigned = lending .borrowed; single = lending .single } in
       state-sum (λ a b. a ≤ b) at-most s
@@ -158,7 +177,7 @@ module _ (s : State) (accepted : stateAccepted s ≡ true) where
       })
 
 -- so that a space of that size for the state after steps is never refused
-pub state-room : (rules saved text : List ℕ) (answersRoom stateRoom : ℕ) → 997821 ≤ stateRoom → (number place : ℕ)
+pub state-room : (rules saved text : List ℕ) (answersRoom stateRoom : ℕ) → 997981 ≤ stateRoom → (number place : ℕ)
     → RunRefused rules saved text answersRoom stateRoom Text.StateSpace number place → ⊥
 state-room rules saved text answersRoom stateRoom h number place (short-state list s given r fits long) =
     let start = start-good rules saved text r in
@@ -182,6 +201,10 @@ only-line false e t h = absurd (let differ : _≡_ {A = ℕ} 0 1 = cc in omega a
 coordinate-long : length (signedOf (signedCode (negsuc 999999))) ≡ 8
 unfolding signedOf signedCode digitsOf digitsWithin
 coordinate-long = refl
+
+error-long : length (digitsOf 1000) ≡ 4
+unfolding digitsOf digitsWithin
+error-long = refl
 
 time-long : length (digitsOf 3155759999) ≡ 10
 unfolding digitsOf digitsWithin
@@ -251,9 +274,10 @@ full-lent =
 full-open : (session : Session) → session ≡ farthest → (i : ℕ) → i < 32 → bytesOf (only (session .«is_open») (Open i (session .user))) ≡ 11 + width i
 full-open session e i h = rw (e, text-one (Open i 63)) (open-size i 63 (omega arith) (omega arith) ∙ omega (arith, width-63))
 
-full-place : (session : Session) → session ≡ farthest → (i : ℕ) → i < 32 → bytesOf (placeLines i (session .position)) ≡ 27 + width i
+full-place : (session : Session) → session ≡ farthest → (i : ℕ) → i < 32 → bytesOf (placeLines i (session .position)) ≡ 32 + width i
+unfolding placeLine
 full-place session e i h =
-    rw (e, text-one (Place i (negsuc 999999) (negsuc 999999))) (place-bytes i (negsuc 999999) (negsuc 999999) ∙ omega (arith, digits-width i (omega arith), coordinate-long))
+    rw (e, text-one (PlaceWithError i (negsuc 999999) (negsuc 999999) 1000)) (error-bytes i (negsuc 999999) (negsuc 999999) 1000 ∙ omega (arith, digits-width i (omega arith), coordinate-long, error-long))
 
 module _ where
   full-session : (i : ℕ) → i < 32 → sessionAt (fullest .sessions) i ≡ farthest
@@ -273,7 +297,7 @@ module _ where
   full-did o p u ho hp hu = rw (lt-ltb p 32 hp, getD-replicate {A = ℕ} 1024 (o * 32 + p) 18446744073709551615 0 (omega arith)) (every-user u hu)
 
 -- its text has as many bytes
-pub fullest-text : length (savedText fullest) ≡ 997821
+pub fullest-text : length (savedText fullest) ≡ 997981
 fullest-text =
     state-sum (λ a b. a ≡ b) exactly fullest
     (record {
@@ -388,11 +412,11 @@ fullest-good =
     }
 
 -- under no rules it is a saved state, and a space that is shorter by a byte is too short for it
-pub state-least : (room : ℕ) → room < 997821 → copyReport (loadTexts [] (savedText fullest)) room ≡ refusedReport Text.StateSpace 18 997821
+pub state-least : (room : ℕ) → room < 997981 → copyReport (loadTexts [] (savedText fullest)) room ≡ refusedReport Text.StateSpace 18 997981
 unfolding copyReport savedReport
 state-least room h =
     let then : RulesThen [] [] [] = record { few = omega arith; accepted = unfold every in refl; reads = unfold listText in refl } in
     let listed : listAccepted (listOf []) ≡ true = list-accepted [] (omega arith) (unfold every in refl) in
     let there : loadTexts [] (savedText fullest) ≡ holding (listOf []) fullest =
     load-state [] (savedText fullest) [] then ∙ ap (stateUnder (listOf [])) (good-back (listOf []) listed fullest fullest-good) ∙ unfold stateUnder in refl in
-    rw (there, fullest-text, lt-leb 997821 room h)
+    rw (there, fullest-text, lt-leb 997981 room h)

@@ -16,9 +16,9 @@ use Rattle.loans.specs.declared.Loan.{Loan}
 use Rattle.enforcement.specs.declared.states.State.{State}
 use Rattle.state_text.specs.Saving.{over}
 
--- open for user 63 at the corner of the grid that takes the most bytes: -1,000,000 and -1,000,000
+-- open for user 63 at the corner of the grid that takes the most bytes, -1,000,000 and -1,000,000, known to 1000 metres
 abbrev pub farthest : Session
-farthest = record { «is_open» = true; user = 63; position = Known (record { x = negsuc 999999; y = negsuc 999999 }) }
+farthest = record { «is_open» = true; user = 63; position = Known (record { x = negsuc 999999; y = negsuc 999999; error = 1000 }) }
 
 -- 2026-01, "up to 32 loans": every role, lent by user 63 to user 62 until the last time
 abbrev pub longestLoan : ℕ → Loan

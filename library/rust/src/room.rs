@@ -12,7 +12,7 @@ const _: () = assert!(INPUT_MOST / "(lost 0)\n".len() * ANSWER_MOST <= OUTPUT_MO
 /// at most 32 times 32 pairs end, `(yes 128 1024)`.
 pub const ANSWER_MOST: usize = "(no 30 128 128)\n".len();
 
-/// Bytes that hold any saved state: every line that its forms allow is there, with the longest times, users and positions. No line
+/// Bytes that hold any saved state: every line that its forms allow is there, with the longest times, users, positions and errors. No line
 /// stands twice (15), there are at most 32 loans (51), and where a loan's line stands, that of the borrower's assigned role does not
 /// (16): so no text is longer.
 pub const STATE_MOST: usize = "(now 3155759999)\n".len()
@@ -20,7 +20,7 @@ pub const STATE_MOST: usize = "(now 3155759999)\n".len()
     + every("(granted  )\n", &[ROLES, PERMISSIONS])
     + LOANS * ("(loan 63   3155759999)\n".len() - "(assigned  )\n".len())
     + every("(open  63)\n", &[SESSIONS])
-    + every("(place  -1000000 -1000000)\n", &[SESSIONS])
+    + every("(place  -1000000 -1000000 1000)\n", &[SESSIONS])
     + every("(active  )\n", &[SESSIONS, ROLES])
     + every("(did   )\n", &[OBJECTS, PERMISSIONS, USERS]);
 

@@ -1,6 +1,10 @@
 //! How often each kind of case was met, and the kinds that must be met.
 
 use crate::generate::damage::DAMAGES;
+use crate::place_kinds::{
+    has_an_error, outcome_kinds, place_kinds_to_meet, refused_line_kind, refused_move_kind,
+    without_errors,
+};
 use crate::plain::gate::{Answer, Outcome};
 use crate::plain::ranges::MOST_LOANS;
 use crate::plain::rules::Rule;
@@ -10,7 +14,7 @@ use crate::plain::steps::Step;
 use std::collections::BTreeMap;
 
 /// A group, a name in it, and a number where the kind has one.
-type Kind = (&'static str, &'static str, u64);
+pub type Kind = (&'static str, &'static str, u64);
 
 #[derive(Default)]
 pub struct Counts {
@@ -38,6 +42,12 @@ const MOST_LOANS_RUN: &str = "lend after which 32 loans run";
 const LOAN_ENDED: &str = "event that ended loans";
 const CLOSED: &str = "event that closed roles not held";
 const CLOSED_THEN_ENDED: &str = "event that closed roles not held and then ended others";
+const ENDED_UNSURE: &str = "event that ended roles at an unsure position";
+const ACTIVATED_UNDER: &str = "activate granted at a position with an error, under";
+const BROKEN_BY_ERRORS: &str = "lowest rule of a 30 that only errors break";
+const SAVED_BROKEN_BY_ERRORS: &str = "lowest rule of a 17 that only errors break";
+const ERRORS_READ: &str = "saved state with errors read";
+const ERRORS_HANDED_OVER: &str = "state with errors handed over between pieces";
 
 const EVENTS: [&str; 5] = ["close", "move", "lost", "clock", "recall"];
 const EVENTS_THAT_END_LOANS: [&str; 2] = ["clock", "recall"];
@@ -46,6 +56,8 @@ const ASSIGN_REFUSED: &str = "assign refused with 24";
 const LEND_REFUSED: &str = "lend refused with 24";
 const ACTIVATED: &str = "activate granted";
 const FAMILIES_OF_HELD_ROLES: [&str; 3] = ["max-users", "max-roles", "apart"];
+const FAMILIES_OF_PLACES: [&str; 4] =
+    ["at inside circle", "at inside box", "at outside circle", "at outside box"];
 const FAMILIES: [&str; 19] = [
     "before",
     "max-users",
@@ -140,6 +152,31 @@ impl Counts {
         self.add((SAVED_BROKEN, rule.family(), 0));
     }
 
+    /// The line of a text that earned the refusal.
+    pub fn refused_line(&mut self, line: &[u8], number: u64) {
+        self.add_all(refused_line_kind(line, number));
+    }
+
+    /// A saved state that was read under the rules.
+    pub fn state_read(&mut self, state: &State) {
+        if has_an_error(state) {
+            self.add((ERRORS_READ, NOTHING, 0));
+        }
+    }
+
+    /// A saved state that was read and breaks the rule.
+    pub fn state_broken(&mut self, rule: &Rule, state: State) {
+        if rule.holds(&without_errors(state)) {
+            self.add((SAVED_BROKEN_BY_ERRORS, rule.family(), 0));
+        }
+    }
+
+    pub fn handed_over(&mut self, state: &State) {
+        if has_an_error(state) {
+            self.add((ERRORS_HANDED_OVER, NOTHING, 0));
+        }
+    }
+
     pub fn step(&mut self, rules: &[Rule], step: &Step, outcome: &Outcome) {
         let number = match outcome.answer {
             Answer::Yes { .. } => NOT_REFUSED,
@@ -148,6 +185,7 @@ impl Counts {
         self.add((ANSWER, NOTHING, number));
         self.add((STEP, step.name(), number));
         self.on_loan(step, number, &outcome.state);
+        self.with_an_error(rules, step, number, &outcome.state);
         match outcome.answer {
             Answer::Yes { ended, .. } => self.ended(step, ended, outcome),
             Answer::No { number: 30, rule, .. } => {
@@ -189,13 +227,36 @@ impl Counts {
         self.add(kind);
     }
 
+    /// What a step met that errors alone bring about.
+    fn with_an_error(&mut self, rules: &[Rule], step: &Step, number: u64, state: &State) {
+        self.add_all(refused_move_kind(step, number));
+        match *step {
+            Step::Move { reported, .. } if number == NOT_REFUSED => {
+                self.add_all(outcome_kinds(rules, reported));
+            }
+            Step::Activate { session, role: added } if number == NOT_REFUSED => {
+                let position = state.sessions[&session].position;
+                let is_of_it =
+                    |rule: &&Rule| matches!(**rule, Rule::At { role, .. } if role == added);
+                if position.is_some_and(|reported| reported.error > 0) {
+                    let rules = rules.iter().filter(is_of_it);
+                    self.add_all(rules.map(|rule| (ACTIVATED_UNDER, rule.family(), 0)));
+                }
+            }
+            _ => {}
+        }
+    }
+
     fn broken(&mut self, rule: &Rule, broken: usize, target: State) {
         self.add((BROKEN, rule.family(), 0));
         if broken >= 2 {
             self.add((SEVERAL_BROKEN, NOTHING, 0));
         }
-        if rule.holds(&State { loans: BTreeMap::new(), ..target }) {
+        if rule.holds(&State { loans: BTreeMap::new(), ..target.clone() }) {
             self.add((BROKEN_BY_LOANS, rule.family(), 0));
+        }
+        if rule.holds(&without_errors(target)) {
+            self.add((BROKEN_BY_ERRORS, rule.family(), 0));
         }
     }
 
@@ -213,6 +274,9 @@ impl Counts {
         if outcome.ending.rounds >= 2 {
             self.add((ENDED_IN_ROUNDS, step.name(), 0));
         }
+        if outcome.ending.unsure > 0 {
+            self.add((ENDED_UNSURE, step.name(), 0));
+        }
     }
 
     fn ended_with_loans(&mut self, step: &Step, outcome: &Outcome) {
@@ -225,6 +289,12 @@ impl Counts {
         }
         if outcome.ending.closed > 0 && outcome.ending.rounds > 0 {
             self.add((CLOSED_THEN_ENDED, step.name(), 0));
+        }
+    }
+
+    fn add_all(&mut self, kinds: impl IntoIterator<Item = Kind>) {
+        for kind in kinds {
+            self.add(kind);
         }
     }
 
@@ -253,8 +323,8 @@ fn written((group, name, number): &Kind) -> String {
 }
 
 fn kinds_to_meet() -> Vec<Kind> {
-    let mut kinds: Vec<Kind> =
-        vec![(SEVERAL_BROKEN, NOTHING, 0), (LENT_OUT, NOTHING, 0), (MOST_LOANS_RUN, NOTHING, 0)];
+    let met_alone = [SEVERAL_BROKEN, LENT_OUT, MOST_LOANS_RUN, ERRORS_READ, ERRORS_HANDED_OVER];
+    let mut kinds: Vec<Kind> = met_alone.map(|group| (group, NOTHING, 0)).to_vec();
     for (call, text, numbers) in CALLS {
         kinds.extend(numbers.iter().map(|&number| (call, text, number)));
     }
@@ -273,6 +343,12 @@ fn kinds_to_meet() -> Vec<Kind> {
     }
     kinds.extend([ASSIGN_REFUSED, LEND_REFUSED, ACTIVATED].map(|name| (ON_LOAN, name, 0)));
     kinds.extend(FAMILIES_OF_HELD_ROLES.map(|family| (BROKEN_BY_LOANS, family, 0)));
+    kinds.push((ENDED_UNSURE, "move", 0));
+    for family in FAMILIES_OF_PLACES {
+        let groups = [ACTIVATED_UNDER, BROKEN_BY_ERRORS, SAVED_BROKEN_BY_ERRORS];
+        kinds.extend(groups.map(|group| (group, family, 0)));
+    }
+    kinds.extend(place_kinds_to_meet());
     kinds.extend(DAMAGES.iter().map(|&(damage, _)| (DAMAGED, damage, 0)));
     kinds
 }

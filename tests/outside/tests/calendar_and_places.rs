@@ -1,7 +1,7 @@
 //! The edges of the scope document on calendar and places.
 
 use outside::plain::calendar::{weekday, Date, Term, SECONDS_OF_DAY};
-use outside::plain::places::{Position, Shape, Side};
+use outside::plain::places::{Position, Reported, Shape, Side};
 use outside::plain::ranges::TIMES;
 
 const MONDAY: i64 = 9655;
@@ -201,5 +201,6 @@ fn an_unknown_position_is_neither() {
     let shape = Shape::Circle { centre: Position { x: 0, y: 0 }, radius: 5 };
     assert!(!Side::Inside(shape).holds(None));
     assert!(!Side::Outside(shape).holds(None));
-    assert!(Side::Outside(shape).holds(Some(Position { x: 6, y: 0 })));
+    let reported = Reported { position: Position { x: 6, y: 0 }, error: 0 };
+    assert!(Side::Outside(shape).holds(Some(reported)));
 }

@@ -194,8 +194,7 @@ fn the_state_after_loans_have_ended() {
 fn the_longest_saved_state() {
     let text = write_state(&fullest_state());
     assert_eq!(read_state(&[], &text), Ok(fullest_state()));
-    assert_eq!(
-        text.len(),
-        997_501 + 32 * ("(loan 63 62 31 3155759999)".len() - "(assigned 62 31)".len())
-    );
+    let with_loans = 32 * ("(loan 63 62 31 3155759999)".len() - "(assigned 62 31)".len());
+    let with_errors = 32 * " 1000".len();
+    assert_eq!(text.len(), 997_501 + with_loans + with_errors);
 }

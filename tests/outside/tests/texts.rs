@@ -166,6 +166,80 @@ fn saved_lines_out_of_order_or_twice() {
     assert_eq!(saved("(now 0)\n(did 0 0 1)\n(open 1 2)\n"), (15, 3));
 }
 
+/// 2026-04: "`move` and `place` take a fourth number e, 1 to 1000; left out means 0, and a
+/// written 0 is 10 in either text"
+#[test]
+fn saved_places_with_an_error() {
+    let place = |numbers: &str| saved(&format!("(now 0)\n(open 1 1)\n(place {numbers})\n"));
+    for numbers in ["1 3 4 1", "1 -3 -4 1000", "1 -1000000 1000000 999", "1 0 0 7"] {
+        assert_eq!(place(numbers), (0, 0), "{numbers}");
+    }
+    for numbers in [
+        "1 3 4 0",
+        "1 3 4 00",
+        "1 3 4 01",
+        "1 3 4 01000",
+        "1 3 4 -1",
+        "1 3 4 -0",
+        "1 3 4 +1",
+        "1 3 4 10000000000",
+        "1 3 4 5 5",
+        "1 3 4 5 0",
+        "1 3 4 ",
+        "1 3 4  5",
+        "1 3 4 (5)",
+        "32 3 4 0",
+        "1 3 1000001 0",
+    ] {
+        assert_eq!(place(numbers), (10, 3), "{numbers}");
+    }
+    for numbers in ["1 3 4 1001", "1 3 4 4294967297", "1 3 4 9999999999", "32 3 4 5", "0 3 4 1001"]
+    {
+        assert_eq!(place(numbers), (11, 3), "{numbers}");
+    }
+    assert_eq!(place("0 3 4 5"), (15, 3));
+    assert_eq!(place("2 3 4 5"), (16, 3));
+}
+
+/// An error is no part of a line's key: two places of a session are one too many.
+#[test]
+fn saved_places_of_one_session_with_another_error() {
+    let twice = |first: &str, second: &str| {
+        saved(&format!("(now 0)\n(open 1 1)\n(place {first})\n(place {second})\n"))
+    };
+    assert_eq!(twice("1 3 4", "1 3 4 5"), (15, 4));
+    assert_eq!(twice("1 3 4 5", "1 3 4"), (15, 4));
+    assert_eq!(twice("1 3 4 5", "1 3 4 6"), (15, 4));
+    assert_eq!(twice("1 3 4 5", "1 3 4 5"), (15, 4));
+    assert_eq!(twice("1 3 4 5", "1 3 4 1001"), (11, 4));
+    assert_eq!(twice("1 3 4 5", "1 3 4 0"), (10, 4));
+    assert_eq!(saved("(now 0)\n(place 1 3 4 5)\n"), (16, 2));
+    assert_eq!(saved("(place 1 3 4 5)\n"), (15, 1));
+}
+
+/// "An unsure position satisfies neither side of an `at` rule."
+#[test]
+fn a_saved_position_that_is_unsure_breaks_either_side() {
+    let rules = b"(rule 1 (at 3 (inside (circle 0 0 10))))\n\
+        (rule 2 (at 4 (outside (circle 0 0 10))))\n";
+    let rules = read_rules(rules).unwrap();
+    let read = |place: &str, role: u64| {
+        let text = format!(
+            "(now 0)\n(assigned 0 3)\n(assigned 0 4)\n(open 0 0)\n(place {place})\n\
+             (active 0 {role})\n"
+        );
+        read_state(&rules, text.as_bytes())
+            .map(|state| assert_eq!(write_state(&state), text.as_bytes()))
+    };
+    let broken = |rule| Err(Bad { number: 17, place: rule });
+    assert_eq!(read("0 6 0 4", 3), Ok(()));
+    assert_eq!(read("0 6 0 5", 3), broken(1));
+    assert_eq!(read("0 6 0 5", 4), broken(2));
+    assert_eq!(read("0 15 0 4", 4), Ok(()));
+    assert_eq!(read("0 15 0 5", 4), broken(2));
+    assert_eq!(read("0 15 0 5", 3), broken(1));
+}
+
 #[test]
 fn saved_lines_without_what_they_stand_on() {
     assert_eq!(saved("(now 0)\n(place 1 0 0)\n"), (16, 2));
@@ -236,6 +310,7 @@ fn a_saved_state_that_breaks_rules() {
 fn steps_have_no_ranges_in_their_text() {
     assert!(steps_are_read(""));
     assert!(steps_are_read("(clock 9999999999)\n(move 99 -9999999999 0)\n"));
+    assert!(steps_are_read("(move 1 3 4 1)\n(move 1 3 4 1000)\n(move 99 3 4 9999999999)\n"));
     assert!(steps_are_read("(lend 64 64 32 9999999999)\n(recall 64 9999999999 32)\n"));
     for text in [
         "(clock 99999999999)\n",
@@ -243,6 +318,18 @@ fn steps_have_no_ranges_in_their_text() {
         "(clock 00)\n",
         "(move -1 0 0)\n",
         "(move 1 -0 0)\n",
+        "(move 1 3 4 0)\n",
+        "(move 99 3 4 0)\n",
+        "(move 1 3 4 00)\n",
+        "(move 1 3 4 05)\n",
+        "(move 1 3 4 -5)\n",
+        "(move 1 3 4 -0)\n",
+        "(move 1 3 4 10000000000)\n",
+        "(move 1 3 4 5 5)\n",
+        "(move 1 3 4  5)\n",
+        "(move 1 3 4 5 )\n",
+        "(place 1 3 4 5)\n",
+        "(lost 1 5)\n",
         "(clock 1)",
         "(steps)\n",
         "(lost)\n",

@@ -1,6 +1,7 @@
 //! The cases of every run: edges of numbers, longest inputs, the fullest state.
 
 use super::loans::compare_loans;
+use super::places::{compare_saved_reports, compare_written_errors, error_sweeps};
 use super::sweeps::{calendar_sweep, place_sweep, Sweep};
 use super::vectors::compare_vectors;
 use super::{input, STEPS_LINE};
@@ -26,7 +27,10 @@ pub fn compare_always(comparison: &mut Comparison) -> Compared {
     compare_fullest_state(comparison)?;
     compare_loans(comparison)?;
     compare_sweep(comparison, calendar_sweep())?;
-    compare_sweep(comparison, place_sweep())
+    compare_sweep(comparison, place_sweep())?;
+    compare_written_errors(comparison)?;
+    compare_saved_reports(comparison)?;
+    error_sweeps().into_iter().try_for_each(|sweep| compare_sweep(comparison, sweep))
 }
 
 fn compare_number_edges(comparison: &mut Comparison) -> Compared {
@@ -118,7 +122,8 @@ fn compare_fullest_state(comparison: &mut Comparison) -> Compared {
     }
     comparison.check_state(kept, &state)?;
     let steps = b"(close 31)\n(withdraw 63 2)\n(take 31 31)\n(finish 31)\n(deactivate 0 2)\n\
-        (move 7 -1000000 1000000)\n(recall 63 62 9)\n(lend 61 62 9 3155759999)\n\
+        (move 7 -1000000 1000000)\n(move 8 -1000000 1000000 999)\n(lost 9)\n\
+        (recall 63 62 9)\n(lend 61 62 9 3155759999)\n\
         (lend 60 62 8 3155759999)\n(clock 3155759999)\n(open 31 62)\n(activate 31 31)\n";
     comparison.run_steps(kept, &state, b"")?;
     comparison.run_steps(kept, &state, steps)

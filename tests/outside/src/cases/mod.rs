@@ -2,6 +2,7 @@
 
 pub mod always;
 mod loans;
+mod places;
 mod seeded;
 mod sweeps;
 mod vectors;

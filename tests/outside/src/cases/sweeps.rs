@@ -2,7 +2,8 @@
 
 use crate::generate::random::Random;
 use crate::plain::calendar::{Date, SECONDS_OF_DAY};
-use crate::plain::ranges::{METRES, ROLES, TIMES};
+use crate::plain::ranges::{METRES, TIMES};
+use std::fmt::Display;
 
 pub struct Sweep {
     pub rules: Vec<u8>,
@@ -95,12 +96,13 @@ pub fn place_sweep() -> Sweep {
 }
 
 /// At each event the roles that may stay do, and all others are tried.
-fn sweep(family: &str, fields: &[&str], events: impl Iterator<Item = String>) -> Sweep {
+pub fn sweep(family: &str, fields: &[impl Display], events: impl Iterator<Item = String>) -> Sweep {
+    let roles = 0..fields.len();
     let numbered = fields.iter().enumerate();
     let rules =
         numbered.map(|(role, field)| format!("(rule {} ({family} {role} {field}))\n", role + 1));
-    let assigned = ROLES.map(|role| format!("(assigned 0 {role})\n"));
-    let tries: String = ROLES.map(|role| format!("(activate 0 {role})\n")).collect();
+    let assigned = roles.clone().map(|role| format!("(assigned 0 {role})\n"));
+    let tries: String = roles.map(|role| format!("(activate 0 {role})\n")).collect();
     let state = format!("(now 0)\n{}(open 0 0)\n", assigned.collect::<String>());
     let steps: Vec<String> = events.map(|event| event + &tries).collect();
     let pieces = steps.chunks(EVENTS_OF_A_PIECE).map(|piece| piece.concat().into_bytes());
@@ -159,6 +161,6 @@ fn positions() -> Vec<(i64, i64)> {
     positions
 }
 
-fn grid(values: &[i64]) -> Vec<(i64, i64)> {
+pub fn grid(values: &[i64]) -> Vec<(i64, i64)> {
     values.iter().flat_map(|&x| values.iter().map(move |&y| (x, y))).collect()
 }

@@ -9,7 +9,8 @@ use crate::plain::form::Bad;
 use crate::plain::gate;
 use crate::plain::program;
 use crate::plain::rules::Rule;
-use crate::plain::state_text::write_state;
+use crate::plain::state::State;
+use crate::plain::state_text::{read_state, write_state};
 use crate::plain::step_text::{read_steps, write_answers};
 use expected::{accepted_state, expected_run, no_room, Refused, Run};
 use pitch_gate::{Refusal, Text};
@@ -26,6 +27,8 @@ pub struct Difference {
 
 pub type Compared = Result<(), Box<Difference>>;
 
+type Read = Result<(Vec<Rule>, State), Refused>;
+
 pub struct Comparison {
     pub counts: Counts,
     /// Fills the lent spaces.
@@ -40,7 +43,10 @@ impl Comparison {
     pub fn respond(&mut self, input: &[u8]) -> Compared {
         match program::read_input(input) {
             Ok(_) => self.counts.accepted("respond"),
-            Err(Bad { number, .. }) => self.counts.refused("respond", INPUT, number),
+            Err(Bad { number, place }) => {
+                self.counts.refused("respond", INPUT, number);
+                self.counts.refused_line(line_of(input, place), number);
+            }
         }
         let counts = &mut self.counts;
         let output = program::respond(input, &mut |rules, step, outcome| {
@@ -82,6 +88,7 @@ impl Comparison {
         let read = accepted_state(rules, state);
         let checked = read.as_ref().map(drop).map_err(|refusal| *refusal);
         self.note("check_state", &list, checked.err());
+        self.note_state(&list, state, &read);
         self.same("check_state", &texts, &checked, &told(pitch_gate::check_state(rules, state)))?;
         let copy = read.map_or(state.to_vec(), |(_, state)| write_state(&state));
         for room in rooms(copy.len()) {
@@ -118,6 +125,9 @@ impl Comparison {
         });
         let refusal = expected.as_ref().err().copied();
         self.note("run_steps", &expected::accepted_rules(rules).unwrap_or_default(), refusal);
+        if let Some(Refused { number, text: Text::Steps, place }) = refusal {
+            self.counts.refused_line(line_of(steps, place), number);
+        }
         let found = told(pitch_gate::run_steps(rules, state, steps).map(Run::from));
         self.same("run_steps", &texts, &expected, &found)?;
         let (answers, next) = match &expected {
@@ -178,6 +188,7 @@ impl Comparison {
             self.same("run_steps of a piece", &texts, &Ok(run.clone()), &found)?;
             handed_over = run.state;
             state = next;
+            self.counts.handed_over(&state);
         }
         Ok(())
     }
@@ -190,6 +201,21 @@ impl Comparison {
         match refusal {
             None => self.counts.accepted(call),
             refusal => self.note_refusal(call, rules, refusal),
+        }
+    }
+
+    /// What a saved state shows besides its refusal.
+    fn note_state(&mut self, rules: &[Rule], text: &[u8], read: &Read) {
+        match *read {
+            Ok((_, ref state)) => self.counts.state_read(state),
+            Err(Refused { number: 17, place, .. }) => {
+                let state = read_state(&[], text).expect("its lines are good");
+                self.counts.state_broken(&rules[place as usize - 1], state);
+            }
+            Err(Refused { number, text: Text::State, place }) => {
+                self.counts.refused_line(line_of(text, place), number);
+            }
+            Err(_) => {}
         }
     }
 
@@ -237,6 +263,12 @@ impl Comparison {
 
 fn told<Value>(result: Result<Value, Refusal>) -> Result<Value, Refused> {
     result.map_err(Refused::from)
+}
+
+/// A line of the text by its number, without its line feed; 0 is none.
+fn line_of(text: &[u8], place: u64) -> &[u8] {
+    let mut lines = text.split(|&byte| byte == b'\n');
+    place.checked_sub(1).and_then(|before| lines.nth(before as usize)).unwrap_or_default()
 }
 
 /// As long as the text, longer, and one byte too short.

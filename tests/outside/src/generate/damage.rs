@@ -1,12 +1,13 @@
 //! Damaged texts: inputs, rule lists, saved states and steps alike.
 
 use super::loan_damage::{loan_added, loan_changed};
+use super::place_damage::{error_dropped, error_written, place_repeated};
 use super::random::Random;
 use std::ops::Range;
 
 type Damage = fn(&mut Random, &[u8]) -> Vec<u8>;
 
-pub const DAMAGES: [(&str, Damage); 28] = [
+pub const DAMAGES: [(&str, Damage); 31] = [
     ("bit flipped", bit_flipped),
     ("byte replaced", byte_replaced),
     ("byte inserted", byte_inserted),
@@ -35,6 +36,9 @@ pub const DAMAGES: [(&str, Damage); 28] = [
     ("(steps) added", steps_line_added),
     ("loan changed", loan_changed),
     ("loan added", loan_added),
+    ("error of a place written", error_written),
+    ("error of a place dropped", error_dropped),
+    ("place repeated", place_repeated),
 ];
 
 /// Values at and just past the ends of the ranges.
@@ -81,7 +85,7 @@ pub const EDGE_VALUES: [u64; 40] = [
     9_999_999_999,
 ];
 
-const WORDS: [&str; 41] = [
+const WORDS: [&str; 42] = [
     "rule",
     "before",
     "max-users",
@@ -118,6 +122,7 @@ const WORDS: [&str; 41] = [
     "access",
     "finish",
     "close",
+    "move",
     "lost",
     "clock",
     "loan",

@@ -30,9 +30,9 @@ pub const RULE_LINES: [&str; 21] = [
 pub const SAVED_TEXT: &str =
     "(now 5)\n(assigned 2 3)\n(assigned 6 4)\n(granted 3 7)\n(granted 4 8)\n\
     (loan 2 6 3 7)\n(loan 6 7 4 100)\n(open 1 2)\n(place 1 10 -20)\n(active 1 3)\n(open 9 6)\n\
-    (active 9 3)\n(active 9 4)\n(did 5 7 2)\n(did 5 8 2)\n";
+    (place 9 -10 20 30)\n(active 9 3)\n(active 9 4)\n(did 5 7 2)\n(did 5 8 2)\n";
 
-pub const STEP_LINES: [&str; 18] = [
+pub const STEP_LINES: [&str; 20] = [
     "(assign 1 2)\n",
     "(withdraw 1 2)\n",
     "(grant 1 2)\n",
@@ -45,6 +45,8 @@ pub const STEP_LINES: [&str; 18] = [
     "(close 1)\n",
     "(move 1 10 20)\n",
     "(move 1 -10 -20)\n",
+    "(move 1 10 20 30)\n",
+    "(move 9 -10 -20 5)\n",
     "(lost 1)\n",
     "(clock 100)\n",
     "(lend 1 2 3 4)\n",

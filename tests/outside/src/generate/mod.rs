@@ -5,6 +5,8 @@ pub mod damage;
 pub mod edges;
 mod loan_damage;
 pub mod loans;
+pub mod place_damage;
+pub mod places;
 pub mod random;
 pub mod rule_lists;
 pub mod states;

@@ -1,11 +1,12 @@
 //! States drawn at random, not reached by steps.
 
 use super::loans::add_some_loans;
+use super::places::drawn_error;
 use super::random::Random;
 use super::step_lists;
 use super::world::World;
-use crate::plain::places::Position;
-use crate::plain::ranges::{METRES, OBJECTS, PERMISSIONS, ROLES, SESSIONS, TIMES, USERS};
+use crate::plain::places::{Position, Reported};
+use crate::plain::ranges::{ERRORS, METRES, OBJECTS, PERMISSIONS, ROLES, SESSIONS, TIMES, USERS};
 use crate::plain::rules::Rule;
 use crate::plain::state::{Session, State};
 
@@ -29,7 +30,7 @@ pub fn drawn_state(random: &mut Random, world: &World) -> State {
     for &session in &world.sessions {
         if random.percent(chance.max(50)) {
             let user = *random.pick(&world.users);
-            let position = random.percent(60).then(|| drawn_position(random));
+            let position = random.percent(60).then(|| drawn_report(random));
             state.sessions.insert(session, Session { user, position });
             let roles = state.roles_held_by(user).into_iter();
             let active = roles.filter(|_| random.percent(chance));
@@ -49,7 +50,8 @@ pub fn drawn_state(random: &mut Random, world: &World) -> State {
 /// longer lines than assigned roles.
 pub fn fullest_state() -> State {
     let (lender, borrower) = (*USERS.end(), *USERS.end() - 1);
-    let position = Some(Position { x: *METRES.start(), y: *METRES.start() });
+    let corner = Position { x: *METRES.start(), y: *METRES.start() };
+    let position = Some(Reported { position: corner, error: *ERRORS.end() });
     let user_of = |session| if session % 2 == 0 { lender } else { borrower };
     State {
         time: *TIMES.end() - 1,
@@ -72,7 +74,8 @@ fn pairs(first: usize, second: usize) -> impl Iterator<Item = (i64, i64)> {
     (0..first as i64).flat_map(move |one| (0..second as i64).map(move |other| (one, other)))
 }
 
-fn drawn_position(random: &mut Random) -> Position {
+fn drawn_report(random: &mut Random) -> Reported {
     let reach = if random.percent(80) { 30 } else { *METRES.end() };
-    Position { x: random.between(-reach, reach), y: random.between(-reach, reach) }
+    let position = Position { x: random.between(-reach, reach), y: random.between(-reach, reach) };
+    Reported { position, error: drawn_error(random) }
 }

@@ -1,13 +1,14 @@
 //! Steps that make sense in the state they meet, most of the time.
 
 use super::loans::loan_end;
+use super::places::{drawn_error, near_a_border};
 use super::random::Random;
-use super::rule_lists::{metre, time_at_an_edge};
+use super::rule_lists::time_at_an_edge;
 use super::world::World;
 use crate::plain::calendar::{Term, SECONDS_OF_DAY};
 use crate::plain::gate::{decide, Answer};
-use crate::plain::places::{Position, Shape, Side};
-use crate::plain::ranges::TIMES;
+use crate::plain::places::{Position, Reported, Side};
+use crate::plain::ranges::{ERRORS, TIMES};
 use crate::plain::rules::Rule;
 use crate::plain::state::State;
 use crate::plain::steps::Step;
@@ -135,7 +136,7 @@ impl Source<'_> {
             Kind::Lost => self.open_session().map(|session| Step::Lost { session }),
             Kind::Move => {
                 let session = self.open_session()?;
-                Some(Step::Move { session, position: self.position() })
+                Some(Step::Move { session, reported: self.report_of(session) })
             }
             Kind::Open => self.new_session(),
             Kind::Lend => self.new_loan(),
@@ -246,7 +247,7 @@ impl Source<'_> {
             Kind::Access => Step::Access { session, permission, object },
             Kind::Finish => Step::Finish { object },
             Kind::Close => Step::Close { session },
-            Kind::Move => Step::Move { session, position: self.position() },
+            Kind::Move => Step::Move { session, reported: self.report() },
             Kind::Lost => Step::Lost { session },
             Kind::Clock => Step::Clock { time: self.time() },
             Kind::Lend => Step::Lend { lender: user, borrower: other, role, until: self.until() },
@@ -286,22 +287,36 @@ impl Source<'_> {
         time.clamp(*TIMES.start(), *TIMES.end())
     }
 
-    /// Half of the time one at which more of the `at` rules hold than at others.
-    fn position(&mut self) -> Position {
-        let tries = if self.random.percent(50) { 5 } else { 1 };
-        let positions: Vec<Position> = (0..tries).map(|_| self.any_position()).collect();
-        let sides: Vec<Side> = self.rules.iter().filter_map(side_of).collect();
-        let kept =
-            |position: &Position| sides.iter().filter(|side| side.holds(Some(*position))).count();
-        positions.into_iter().max_by_key(kept).expect("there is a try")
+    /// Now and then where the session is, with another error.
+    fn report_of(&mut self, session: i64) -> Reported {
+        match self.state.sessions[&session].position {
+            Some(Reported { position, .. }) if self.random.percent(20) => {
+                Reported { position, error: drawn_error(self.random) }
+            }
+            _ => self.report(),
+        }
     }
 
-    fn any_position(&mut self) -> Position {
+    /// Half of the time one at which more of the `at` rules hold than at others.
+    fn report(&mut self) -> Reported {
+        let tries = if self.random.percent(50) { 5 } else { 1 };
+        let reports: Vec<Reported> = (0..tries).map(|_| self.any_report()).collect();
         let sides: Vec<Side> = self.rules.iter().filter_map(side_of).collect();
-        match self.random.pick_any(&sides) {
-            Some(side) if self.random.percent(85) => near_an_edge(self.random, side.shape()),
-            _ => Position { x: self.random.between(-30, 30), y: self.random.between(-30, 30) },
+        let kept =
+            |report: &Reported| sides.iter().filter(|side| side.holds(Some(*report))).count();
+        reports.into_iter().max_by_key(kept).expect("there is a try")
+    }
+
+    fn any_report(&mut self) -> Reported {
+        let sides: Vec<Side> = self.rules.iter().filter_map(side_of).collect();
+        if let Some(side) = self.random.pick_any(&sides) {
+            if self.random.percent(85) {
+                return near_a_border(self.random, side.shape());
+            }
         }
+        let position =
+            Position { x: self.random.between(-30, 30), y: self.random.between(-30, 30) };
+        Reported { position, error: drawn_error(self.random) }
     }
 
     fn with_a_number_outside(&mut self, step: Step) -> Step {
@@ -320,9 +335,8 @@ impl Source<'_> {
             Step::Finish { .. } => Step::Finish { object: outside },
             Step::Close { .. } => Step::Close { session: outside },
             Step::Lost { .. } => Step::Lost { session: outside },
-            Step::Move { session, position } => {
-                let x = *self.random.pick(&[-1_000_001, 1_000_001, 9_999_999_999]);
-                Step::Move { session, position: Position { x, ..position } }
+            Step::Move { session, reported } => {
+                Step::Move { session, reported: self.report_with_a_number_outside(reported) }
             }
             Step::Clock { .. } => {
                 Step::Clock { time: *self.random.pick(&[TIMES.end() + 1, 9_999_999_999]) }
@@ -333,6 +347,18 @@ impl Source<'_> {
             }
             Step::Recall { lender, role, .. } => Step::Recall { lender, borrower: outside, role },
         }
+    }
+
+    /// Some are in their range if only their lowest bits are looked at.
+    fn report_with_a_number_outside(&mut self, reported: Reported) -> Reported {
+        if self.random.percent(40) {
+            let x = *self.random.pick(&[-1_000_001, 1_000_001, 9_999_999_999]);
+            let position = Position { x, ..reported.position };
+            return Reported { position, ..reported };
+        }
+        let largest = *ERRORS.end();
+        let outside = [largest + 1, largest + 1, 65_537, 4_294_967_297, 9_999_999_999];
+        Reported { error: *self.random.pick(&outside), ..reported }
     }
 }
 
@@ -361,31 +387,4 @@ fn ends_roles(kind: Kind) -> bool {
             | Kind::Clock
             | Kind::Recall
     )
-}
-
-fn near_an_edge(random: &mut Random, shape: Shape) -> Position {
-    let (x, y) = match shape {
-        Shape::Circle { centre, radius } => near_a_circle(random, centre, radius),
-        Shape::Box { low, high } => {
-            let x = *random.pick(&[low.x, high.x, low.x - 1, high.x + 1, (low.x + high.x) / 2]);
-            let y = *random.pick(&[low.y, high.y, low.y - 1, high.y + 1, (low.y + high.y) / 2]);
-            (x, y)
-        }
-    };
-    Position { x: metre(x), y: metre(y) }
-}
-
-/// Three fifths and four fifths of a radius are on the circle where both are whole.
-fn near_a_circle(random: &mut Random, centre: Position, radius: i64) -> (i64, i64) {
-    let offsets = [
-        (0, 0),
-        (radius, 0),
-        (0, -radius),
-        (radius * 3 / 5, radius * 4 / 5),
-        (-radius * 4 / 5, radius * 3 / 5),
-        (radius / 2, -radius / 2),
-    ];
-    let (across, along) = *random.pick(&offsets);
-    let nudge = *random.pick(&[0, 0, 1, -1]);
-    (centre.x + across + nudge, centre.y + along)
 }

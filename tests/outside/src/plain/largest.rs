@@ -1,5 +1,6 @@
 //! "the largest part of the target's active pairs under which every rule holds"
 
+use super::places::PlaceOutcome;
 use super::rules::{every_rule_holds, Rule};
 use super::state::State;
 use std::collections::BTreeSet;
@@ -22,6 +23,9 @@ pub struct Ending {
     pub loans: usize,
     /// Pairs that are no longer in the target.
     pub closed: usize,
+    /// Pairs that are in the target and were ended at a position that is unsure for an `at`
+    /// rule of their role.
+    pub unsure: usize,
     /// Rounds in which a pair was ended.
     pub rounds: usize,
     /// Every part was looked at.
@@ -40,9 +44,11 @@ pub fn largest_part(rules: &[Rule], target: State) -> Largest {
         let found = by_every_part(rules, &target);
         assert_eq!(found.as_ref(), Some(&kept), "largest part of {target:?} under {rules:?}");
     }
+    let unsure = target.active.difference(&kept).filter(|&&pair| is_unsure(rules, &target, pair));
+    let unsure = unsure.count();
     let state = with_active(&target, kept);
     assert!(every_rule_holds(rules, &state), "after the rounds on {target:?} under {rules:?}");
-    Largest { state, ending: Ending { rounds, searched, ..Ending::default() } }
+    Largest { state, ending: Ending { unsure, rounds, searched, ..Ending::default() } }
 }
 
 fn can_be_searched(rules: &[Rule], target: &State) -> bool {
@@ -88,6 +94,14 @@ fn may_stay(rules: &[Rule], state: &State, (session, active): (i64, i64)) -> boo
         Rule::During { role, ref term } if role == active => term.holds(state.time),
         Rule::At { role, side } if role == active => side.holds(state.sessions[&session].position),
         _ => true,
+    })
+}
+
+fn is_unsure(rules: &[Rule], state: &State, (session, active): (i64, i64)) -> bool {
+    let Some(reported) = state.sessions[&session].position else { return false };
+    rules.iter().any(|rule| {
+        matches!(*rule, Rule::At { role, side }
+            if role == active && side.shape().outcome(reported) == PlaceOutcome::Unsure)
     })
 }
 

@@ -2,8 +2,8 @@
 
 use super::calendar::Date;
 use super::form::Form;
-use super::places::Position;
-use super::ranges::{METRES, YEARS};
+use super::places::{Position, Reported};
+use super::ranges::{ERRORS, METRES, YEARS};
 use std::ops::RangeInclusive;
 
 const MOST_DIGITS: usize = 10;
@@ -20,6 +20,15 @@ pub fn signed(form: &Form) -> Option<i64> {
         Some("0") => None,
         Some(digits) => whole_word(digits).map(|value| -value),
         None => whole_word(word),
+    }
+}
+
+/// What stands after x and y. 2026-04: "left out means 0, and a written 0 is 10"
+pub fn error(fields: &[Form]) -> Option<i64> {
+    match fields {
+        [] => Some(0),
+        [error] => whole(error).filter(|&error| error != 0),
+        _ => None,
     }
 }
 
@@ -53,6 +62,11 @@ impl Numbers {
     pub fn position(&mut self, x: &Form, y: &Form) -> Option<Position> {
         let (x, y) = (signed(x)?, signed(y)?);
         Some(Position { x: self.ranged(x, METRES), y: self.ranged(y, METRES) })
+    }
+
+    pub fn reported(&mut self, x: &Form, y: &Form, after: &[Form]) -> Option<Reported> {
+        let position = self.position(x, y)?;
+        Some(Reported { position, error: self.ranged(error(after)?, ERRORS) })
     }
 
     pub fn date(&mut self, form: &Form) -> Option<Date> {

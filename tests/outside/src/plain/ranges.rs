@@ -9,6 +9,8 @@ pub const SESSIONS: RangeInclusive<i64> = 0..=31;
 pub const OBJECTS: RangeInclusive<i64> = 0..=31;
 pub const TIMES: RangeInclusive<i64> = 0..=3_155_759_999;
 pub const METRES: RangeInclusive<i64> = -1_000_000..=1_000_000;
+/// 2026-04: "1 to 1000; left out means 0"
+pub const ERRORS: RangeInclusive<i64> = 0..=1000;
 pub const RADII: RangeInclusive<i64> = 1..=100_000;
 pub const RULE_NUMBERS: RangeInclusive<i64> = 1..=128;
 pub const USER_LIMITS: RangeInclusive<i64> = 0..=64;

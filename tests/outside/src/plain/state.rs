@@ -1,6 +1,6 @@
 //! "The state": sets of pairs and triples, in the order in which they are saved.
 
-use super::places::Position;
+use super::places::Reported;
 use super::ranges::USERS;
 use std::collections::{BTreeMap, BTreeSet};
 
@@ -24,7 +24,7 @@ pub struct State {
 #[derive(Clone, Debug, PartialEq, Eq)]
 pub struct Session {
     pub user: i64,
-    pub position: Option<Position>,
+    pub position: Option<Reported>,
 }
 
 impl State {

@@ -2,7 +2,7 @@
 
 use super::form::{lines, read_form, Bad, Form};
 use super::numbers::Numbers;
-use super::places::Position;
+use super::places::Reported;
 use super::ranges::{MOST_LOANS, OBJECTS, PERMISSIONS, ROLES, SESSIONS, TIMES, USERS};
 use super::rules::{broken_rules, Rule};
 use super::state::{Session, State};
@@ -30,7 +30,7 @@ pub fn write_state(state: &State) -> Vec<u8> {
     }));
     for (&session, Session { user, position }) in &state.sessions {
         saved.push(Saved::Open { session, user: *user });
-        saved.extend(position.map(|position| Saved::Place { session, position }));
+        saved.extend(position.map(|reported| Saved::Place { session, reported }));
         saved.extend(state.active_in(session).map(|role| Saved::Active { session, role }));
     }
     let did = state.did.iter();
@@ -45,7 +45,7 @@ enum Saved {
     Granted { role: i64, permission: i64 },
     Loan { lender: i64, borrower: i64, role: i64, until: i64 },
     Open { session: i64, user: i64 },
-    Place { session: i64, position: Position },
+    Place { session: i64, reported: Reported },
     Active { session: i64, role: i64 },
     Did { object: i64, permission: i64, user: i64 },
 }
@@ -106,9 +106,9 @@ fn read_saved(form: &Form, numbers: &mut Numbers) -> Option<Saved> {
             session: numbers.whole(session, SESSIONS)?,
             user: numbers.whole(user, USERS)?,
         },
-        [Form::Word("place"), session, x, y] => Saved::Place {
+        [Form::Word("place"), session, x, y, after @ ..] => Saved::Place {
             session: numbers.whole(session, SESSIONS)?,
-            position: numbers.position(x, y)?,
+            reported: numbers.reported(x, y, after)?,
         },
         [Form::Word("active"), session, role] => Saved::Active {
             session: numbers.whole(session, SESSIONS)?,
@@ -123,7 +123,7 @@ fn read_saved(form: &Form, numbers: &mut Numbers) -> Option<Saved> {
     })
 }
 
-/// Orders the lines. What there is at most one of, a session's user and position
+/// Orders the lines. What there is at most one of, a session's user, position and error
 /// and a loan's end, is no part of it: a second such line is "out of order or twice".
 type Key = (u8, i64, i64, i64);
 
@@ -173,9 +173,9 @@ impl Saved {
             Saved::Open { session, user } => {
                 state.sessions.insert(session, Session { user, position: None });
             }
-            Saved::Place { session, position } => {
+            Saved::Place { session, reported } => {
                 let opened = state.sessions.get_mut(&session).expect("the session is open");
-                opened.position = Some(position);
+                opened.position = Some(reported);
             }
             Saved::Active { session, role } => drop(state.active.insert((session, role))),
             Saved::Did { object, permission, user } => {
@@ -195,7 +195,7 @@ impl fmt::Display for Saved {
                 write!(out, "(loan {lender} {borrower} {role} {until})")
             }
             Saved::Open { session, user } => write!(out, "(open {session} {user})"),
-            Saved::Place { session, position } => write!(out, "(place {session} {position})"),
+            Saved::Place { session, reported } => write!(out, "(place {session} {reported})"),
             Saved::Active { session, role } => write!(out, "(active {session} {role})"),
             Saved::Did { object, permission, user } => {
                 write!(out, "(did {object} {permission} {user})")

@@ -2,8 +2,8 @@
 
 use super::form::{lines, read_form, Bad, Form};
 use super::gate::Answer;
-use super::numbers::{signed, whole};
-use super::places::Position;
+use super::numbers::{error, signed, whole};
+use super::places::{Position, Reported};
 use super::steps::Step;
 use std::fmt;
 
@@ -24,9 +24,10 @@ pub fn write_answers(answers: &[Answer]) -> Vec<u8> {
 pub fn read_step(line: Option<&[u8]>) -> Option<Step> {
     let form = read_form(line)?;
     let (Form::Word(kind), fields) = form.list()?.split_first()? else { return None };
-    if let ("move", [session, x, y]) = (*kind, fields) {
+    if let ("move", [session, x, y, after @ ..]) = (*kind, fields) {
         let position = Position { x: signed(x)?, y: signed(y)? };
-        return Some(Step::Move { session: whole(session)?, position });
+        let reported = Reported { position, error: error(after)? };
+        return Some(Step::Move { session: whole(session)?, reported });
     }
     let fields: Vec<i64> = fields.iter().map(whole).collect::<Option<_>>()?;
     read_step_of(kind, &fields)
@@ -71,7 +72,7 @@ impl fmt::Display for Step {
             }
             Step::Finish { object } => write!(out, "({name} {object})"),
             Step::Close { session } | Step::Lost { session } => write!(out, "({name} {session})"),
-            Step::Move { session, position } => write!(out, "({name} {session} {position})"),
+            Step::Move { session, reported } => write!(out, "({name} {session} {reported})"),
             Step::Clock { time } => write!(out, "({name} {time})"),
             Step::Lend { lender, borrower, role, until } => {
                 write!(out, "({name} {lender} {borrower} {role} {until})")

@@ -1,7 +1,9 @@
 //! The steps of the table: what makes one refused before 30, and its target.
 
-use super::places::Position;
-use super::ranges::{METRES, MOST_LOANS, OBJECTS, PERMISSIONS, ROLES, SESSIONS, TIMES, USERS};
+use super::places::Reported;
+use super::ranges::{
+    ERRORS, METRES, MOST_LOANS, OBJECTS, PERMISSIONS, ROLES, SESSIONS, TIMES, USERS,
+};
 use super::state::{Session, State};
 
 /// The numbers are as written: any of them may be outside its range.
@@ -17,7 +19,7 @@ pub enum Step {
     Access { session: i64, permission: i64, object: i64 },
     Finish { object: i64 },
     Close { session: i64 },
-    Move { session: i64, position: Position },
+    Move { session: i64, reported: Reported },
     Lost { session: i64 },
     Clock { time: i64 },
     Lend { lender: i64, borrower: i64, role: i64, until: i64 },
@@ -55,10 +57,11 @@ impl Step {
             }
             Step::Finish { object } => OBJECTS.contains(&object),
             Step::Close { session } | Step::Lost { session } => SESSIONS.contains(&session),
-            Step::Move { session, position } => {
+            Step::Move { session, reported: Reported { position, error } } => {
                 SESSIONS.contains(&session)
                     && METRES.contains(&position.x)
                     && METRES.contains(&position.y)
+                    && ERRORS.contains(&error)
             }
             Step::Clock { time } => TIMES.contains(&time),
             Step::Lend { lender, borrower, role, until } => {
@@ -131,7 +134,7 @@ impl Step {
                 target.sessions.remove(&session);
                 target.active.retain(|&(other, _)| other != session);
             }
-            Step::Move { session, position } => set_position(&mut target, session, Some(position)),
+            Step::Move { session, reported } => set_position(&mut target, session, Some(reported)),
             Step::Lost { session } => set_position(&mut target, session, None),
             Step::Clock { time } => {
                 target.time = time;
@@ -195,6 +198,6 @@ fn end_loans(target: &mut State, ends: impl Fn((i64, i64, i64), i64) -> bool) {
     target.active = active.filter(|&(session, role)| target.is_held_in(session, role)).collect();
 }
 
-fn set_position(target: &mut State, session: i64, position: Option<Position>) {
+fn set_position(target: &mut State, session: i64, position: Option<Reported>) {
     target.sessions.get_mut(&session).expect("the session is open").position = position;
 }

@@ -69,6 +69,9 @@ ranged-requires-20 c κs = search needs
 ranged-requires-21 : tie.Need-ranged-requires-21
 ranged-requires-21 c κs = search needs
 
+ranged-requires-22 : tie.Need-ranged-requires-22
+ranged-requires-22 c κs = search needs
+
 returns : tie.Need-returns
 unfolding kindOf lookup
 returns c = rw (c .before .match .keys1) (c .ranged .ensures)
@@ -151,31 +154,36 @@ returns-20 c = rw (c .before .match .keys20) (c .ranged20 .ensures)
 
 returns-21 : tie.Need-returns-21
 unfolding kindOf lookup
-returns-21 c =
+returns-21 c = rw (c .before .match .keys21) (c .ranged21 .ensures)
+
+returns-22 : tie.Need-returns-22
+unfolding kindOf lookup
+returns-22 c =
     let unmarked = c .before .match .rest in
     rw (
-      ne-eqb _ 35 (unmarked .0 .0 .0 .0 .0 .0 .0 .0 .0 .0 .0 .0 .0 .0 .0 .0 .0 .0 .0 .1),
-      ne-eqb _ 64 (unmarked .0 .0 .0 .0 .0 .0 .0 .0 .0 .0 .0 .0 .0 .0 .0 .0 .0 .0 .1),
-      ne-eqb _ 36 (unmarked .0 .0 .0 .0 .0 .0 .0 .0 .0 .0 .0 .0 .0 .0 .0 .0 .0 .1),
-      ne-eqb _ 37 (unmarked .0 .0 .0 .0 .0 .0 .0 .0 .0 .0 .0 .0 .0 .0 .0 .0 .1),
-      ne-eqb _ 38 (unmarked .0 .0 .0 .0 .0 .0 .0 .0 .0 .0 .0 .0 .0 .0 .0 .1),
-      ne-eqb _ 42 (unmarked .0 .0 .0 .0 .0 .0 .0 .0 .0 .0 .0 .0 .0 .0 .1),
-      ne-eqb _ 126 (unmarked .0 .0 .0 .0 .0 .0 .0 .0 .0 .0 .0 .0 .0 .1),
-      ne-eqb _ 43 (unmarked .0 .0 .0 .0 .0 .0 .0 .0 .0 .0 .0 .0 .1),
-      ne-eqb _ 94 (unmarked .0 .0 .0 .0 .0 .0 .0 .0 .0 .0 .0 .1),
-      ne-eqb _ 62 (unmarked .0 .0 .0 .0 .0 .0 .0 .0 .0 .0 .1),
-      ne-eqb _ 60 (unmarked .0 .0 .0 .0 .0 .0 .0 .0 .0 .1),
-      ne-eqb _ 33 (unmarked .0 .0 .0 .0 .0 .0 .0 .0 .1),
-      ne-eqb _ 44 (unmarked .0 .0 .0 .0 .0 .0 .0 .1),
-      ne-eqb _ 39 (unmarked .0 .0 .0 .0 .0 .0 .1),
-      ne-eqb _ 47 (unmarked .0 .0 .0 .0 .0 .1),
-      ne-eqb _ 46 (unmarked .0 .0 .0 .0 .1),
-      ne-eqb _ 91 (unmarked .0 .0 .0 .1),
-      ne-eqb _ 93 (unmarked .0 .0 .1),
-      ne-eqb _ 63 (unmarked .0 .1),
-      ne-eqb _ 95 (unmarked .1),
+      ne-eqb _ 35 (unmarked .0 .0 .0 .0 .0 .0 .0 .0 .0 .0 .0 .0 .0 .0 .0 .0 .0 .0 .0 .0 .1),
+      ne-eqb _ 64 (unmarked .0 .0 .0 .0 .0 .0 .0 .0 .0 .0 .0 .0 .0 .0 .0 .0 .0 .0 .0 .1),
+      ne-eqb _ 36 (unmarked .0 .0 .0 .0 .0 .0 .0 .0 .0 .0 .0 .0 .0 .0 .0 .0 .0 .0 .1),
+      ne-eqb _ 37 (unmarked .0 .0 .0 .0 .0 .0 .0 .0 .0 .0 .0 .0 .0 .0 .0 .0 .0 .1),
+      ne-eqb _ 38 (unmarked .0 .0 .0 .0 .0 .0 .0 .0 .0 .0 .0 .0 .0 .0 .0 .0 .1),
+      ne-eqb _ 42 (unmarked .0 .0 .0 .0 .0 .0 .0 .0 .0 .0 .0 .0 .0 .0 .0 .1),
+      ne-eqb _ 126 (unmarked .0 .0 .0 .0 .0 .0 .0 .0 .0 .0 .0 .0 .0 .0 .1),
+      ne-eqb _ 43 (unmarked .0 .0 .0 .0 .0 .0 .0 .0 .0 .0 .0 .0 .0 .1),
+      ne-eqb _ 94 (unmarked .0 .0 .0 .0 .0 .0 .0 .0 .0 .0 .0 .0 .1),
+      ne-eqb _ 62 (unmarked .0 .0 .0 .0 .0 .0 .0 .0 .0 .0 .0 .1),
+      ne-eqb _ 60 (unmarked .0 .0 .0 .0 .0 .0 .0 .0 .0 .0 .1),
+      ne-eqb _ 33 (unmarked .0 .0 .0 .0 .0 .0 .0 .0 .0 .1),
+      ne-eqb _ 44 (unmarked .0 .0 .0 .0 .0 .0 .0 .0 .1),
+      ne-eqb _ 39 (unmarked .0 .0 .0 .0 .0 .0 .0 .1),
+      ne-eqb _ 47 (unmarked .0 .0 .0 .0 .0 .0 .1),
+      ne-eqb _ 46 (unmarked .0 .0 .0 .0 .0 .1),
+      ne-eqb _ 91 (unmarked .0 .0 .0 .0 .1),
+      ne-eqb _ 93 (unmarked .0 .0 .0 .1),
+      ne-eqb _ 63 (unmarked .0 .0 .1),
+      ne-eqb _ 95 (unmarked .0 .1),
+      ne-eqb _ 96 (unmarked .1),
     )
-    (c .ranged21 .ensures)
+    (c .ranged22 .ensures)
 
 pub kind-of-spec : {M : Type 1} → statement M
 kind-of-spec =
@@ -202,6 +210,7 @@ kind-of-spec =
     ranged-requires-19
     ranged-requires-20
     ranged-requires-21
+    ranged-requires-22
     returns
     returns-2
     returns-3
@@ -222,4 +231,5 @@ kind-of-spec =
     returns-18
     returns-19
     returns-20
-    returns-21)
+    returns-21
+    returns-22)

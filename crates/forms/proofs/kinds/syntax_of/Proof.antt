@@ -27,9 +27,13 @@ unfolding kindOf lookup
 returns-5 c = rw (c .match .keys5)
 
 returns-6 : tie.Need-returns-6
-returns-6 c =
+unfolding kindOf lookup
+returns-6 c = rw (c .match .keys6)
+
+returns-7 : tie.Need-returns-7
+returns-7 c =
     let other = c .match .rest in
-    number-mark _ (omega arith) (c .before .pre) (other .0 .0 .0 .0 .1) (other .0 .0 .0 .1) (other .0 .0 .1) (other .0 .1) (other .1)
+    number-mark _ (omega arith) (c .before .pre) (other .0 .0 .0 .0 .0 .1) (other .0 .0 .0 .0 .1) (other .0 .0 .0 .1) (other .0 .0 .1) (other .0 .1) (other .1)
 
 pub syntax-of-spec : {M : Type 1} → statement M
-syntax-of-spec = tie.close (tie.spec returns returns-2 returns-3 returns-4 returns-5 returns-6)
+syntax-of-spec = tie.close (tie.spec returns returns-2 returns-3 returns-4 returns-5 returns-6 returns-7)

@@ -25,17 +25,23 @@ read-number-requires c κs = search needs
 enum-told-3 : tie.Need-enum-told-3
 enum-told-3 c = search needs
 
-read-signed-requires : tie.Need-read-signed-requires
-read-signed-requires c κs = search needs
+read-positive-requires : tie.Need-read-positive-requires
+read-positive-requires c κs = search needs
 
 enum-told-4 : tie.Need-enum-told-4
 enum-told-4 c = search needs
 
-read-fixed-requires : tie.Need-read-fixed-requires
-read-fixed-requires c κs = search needs
+read-signed-requires : tie.Need-read-signed-requires
+read-signed-requires c κs = search needs
 
 enum-told-5 : tie.Need-enum-told-5
 enum-told-5 c = search needs
+
+read-fixed-requires : tie.Need-read-fixed-requires
+read-fixed-requires c κs = search needs
+
+enum-told-6 : tie.Need-enum-told-6
+enum-told-6 c = search needs
 
 read-fixed-requires-2 : tie.Need-read-fixed-requires-2
 read-fixed-requires-2 c κs = search needs
@@ -50,15 +56,19 @@ returns-2 c = c .read-number .ensures ∙ syntax-read _ _ syntax.Number (c .befo
 
 returns-3 : tie.Need-returns-3
 unfolding readBy
-returns-3 c = c .read-signed .ensures ∙ syntax-read _ _ syntax.Signed (c .before .before .before .syntax-of .ensures) (c .before .enum-told3 .given .1) _
+returns-3 c = c .read-positive .ensures ∙ syntax-read _ _ syntax.Positive (c .before .before .before .syntax-of .ensures) (c .before .enum-told3 .given .1) _
 
 returns-4 : tie.Need-returns-4
 unfolding readBy
-returns-4 c = c .read-fixed .ensures ∙ syntax-read _ _ syntax.Date (c .before .before .before .syntax-of .ensures) (c .before .enum-told4 .given .1) _
+returns-4 c = c .read-signed .ensures ∙ syntax-read _ _ syntax.Signed (c .before .before .before .syntax-of .ensures) (c .before .enum-told4 .given .1) _
 
 returns-5 : tie.Need-returns-5
 unfolding readBy
-returns-5 c = c .read-fixed2 .ensures ∙ syntax-read _ _ syntax.TimeOfDay (c .before .before .before .syntax-of .ensures) (c .before .enum-told5 .given .1) _
+returns-5 c = c .read-fixed .ensures ∙ syntax-read _ _ syntax.Date (c .before .before .before .syntax-of .ensures) (c .before .enum-told5 .given .1) _
+
+returns-6 : tie.Need-returns-6
+unfolding readBy
+returns-6 c = c .read-fixed2 .ensures ∙ syntax-read _ _ syntax.TimeOfDay (c .before .before .before .syntax-of .ensures) (c .before .enum-told6 .given .1) _
 
 pub read-item-spec : {M : Type 1} → statement M
 read-item-spec =
@@ -70,13 +80,16 @@ read-item-spec =
     enum-told-2
     read-number-requires
     enum-told-3
-    read-signed-requires
+    read-positive-requires
     enum-told-4
-    read-fixed-requires
+    read-signed-requires
     enum-told-5
+    read-fixed-requires
+    enum-told-6
     read-fixed-requires-2
     returns
     returns-2
     returns-3
     returns-4
-    returns-5)
+    returns-5
+    returns-6)

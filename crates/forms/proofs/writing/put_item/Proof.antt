@@ -25,17 +25,23 @@ put-number-requires c κs = search needs
 enum-told-3 : tie.Need-enum-told-3
 enum-told-3 c = search needs
 
-put-signed-requires : tie.Need-put-signed-requires
-put-signed-requires c κs = search needs
+put-number-requires-2 : tie.Need-put-number-requires-2
+put-number-requires-2 c κs = search needs
 
 enum-told-4 : tie.Need-enum-told-4
 enum-told-4 c = search needs
 
-put-fixed-requires : tie.Need-put-fixed-requires
-put-fixed-requires c κs = search needs
+put-signed-requires : tie.Need-put-signed-requires
+put-signed-requires c κs = search needs
 
 enum-told-5 : tie.Need-enum-told-5
 enum-told-5 c = search needs
+
+put-fixed-requires : tie.Need-put-fixed-requires
+put-fixed-requires c κs = search needs
+
+enum-told-6 : tie.Need-enum-told-6
+enum-told-6 c = search needs
 
 put-fixed-requires-2 : tie.Need-put-fixed-requires-2
 put-fixed-requires-2 c κs = search needs
@@ -59,21 +65,28 @@ same-length-3 c = search needs
 
 returns-3 : tie.Need-returns-3
 unfolding textBy
-returns-3 c = like (syntax-text _ _ syntax.Signed (c .before .before .before .before .before .before .syntax-of .ensures) (c .before .before .before .before .enum-told3 .given .1) _) (c .before .before .put-signed .ensures)
+returns-3 c = like (syntax-text _ _ syntax.Positive (c .before .before .before .before .before .before .syntax-of .ensures) (c .before .before .before .before .enum-told3 .given .1) _) (c .before .before .put-number2 .ensures)
 
 same-length-4 : tie.Need-same-length-4
 same-length-4 c = search needs
 
 returns-4 : tie.Need-returns-4
 unfolding textBy
-returns-4 c = like (syntax-text _ _ syntax.Date (c .before .before .before .before .before .before .syntax-of .ensures) (c .before .before .before .before .enum-told4 .given .1) _) (c .before .before .put-fixed .ensures)
+returns-4 c = like (syntax-text _ _ syntax.Signed (c .before .before .before .before .before .before .syntax-of .ensures) (c .before .before .before .before .enum-told4 .given .1) _) (c .before .before .put-signed .ensures)
 
 same-length-5 : tie.Need-same-length-5
 same-length-5 c = search needs
 
 returns-5 : tie.Need-returns-5
 unfolding textBy
-returns-5 c = like (syntax-text _ _ syntax.TimeOfDay (c .before .before .before .before .before .before .syntax-of .ensures) (c .before .before .before .before .enum-told5 .given .1) _) (c .before .before .put-fixed2 .ensures)
+returns-5 c = like (syntax-text _ _ syntax.Date (c .before .before .before .before .before .before .syntax-of .ensures) (c .before .before .before .before .enum-told5 .given .1) _) (c .before .before .put-fixed .ensures)
+
+same-length-6 : tie.Need-same-length-6
+same-length-6 c = search needs
+
+returns-6 : tie.Need-returns-6
+unfolding textBy
+returns-6 c = like (syntax-text _ _ syntax.TimeOfDay (c .before .before .before .before .before .before .syntax-of .ensures) (c .before .before .before .before .enum-told6 .given .1) _) (c .before .before .put-fixed2 .ensures)
 
 pub put-item-spec : {M : Type 1} → statement M
 put-item-spec =
@@ -85,10 +98,12 @@ put-item-spec =
     enum-told-2
     put-number-requires
     enum-told-3
-    put-signed-requires
+    put-number-requires-2
     enum-told-4
-    put-fixed-requires
+    put-signed-requires
     enum-told-5
+    put-fixed-requires
+    enum-told-6
     put-fixed-requires-2
     same-length
     returns
@@ -99,4 +114,6 @@ put-item-spec =
     same-length-4
     returns-4
     same-length-5
-    returns-5)
+    returns-5
+    same-length-6
+    returns-6)

@@ -48,6 +48,9 @@ has-role-requires-3 c κs = search needs
 enum-told-6 : tie.Need-enum-told-6
 enum-told-6 c = search needs
 
+enum-told-7 : tie.Need-enum-told-7
+enum-told-7 c = search needs
+
 returns : tie.Need-returns
 unfolding rests sessionOf
 returns c = λ s h a b t. rw (c .enum-told .given .1)
@@ -80,6 +83,10 @@ returns-8 : tie.Need-returns-8
 unfolding rests sessionOf
 returns-8 c = λ s h a b t. rw (c .enum-told6 .given .1)
 
+returns-9 : tie.Need-returns-9
+unfolding rests sessionOf
+returns-9 c = λ s h a b t. rw (c .enum-told7 .given .1, rw (c .enum-told7 .given .1) at h)
+
 pub rests-spec : {M : Type 1} → statement M
 rests-spec =
     tie.close
@@ -97,6 +104,7 @@ rests-spec =
     enum-known-entry-2
     has-role-requires-3
     enum-told-6
+    enum-told-7
     returns
     returns-2
     returns-3
@@ -104,4 +112,5 @@ rests-spec =
     returns-5
     returns-6
     returns-7
-    returns-8)
+    returns-8
+    returns-9)

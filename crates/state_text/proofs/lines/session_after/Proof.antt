@@ -27,8 +27,8 @@ enum-told-4 c = search needs
 enum-known-entry : tie.Need-enum-known-entry
 enum-known-entry c = search needs
 
-cast-t8 : tie.Need-cast-t8
-cast-t8 c = let h = subst Ranged (c .before .entry .given .1) (c .before .before .before .pre) in omega arith
+cast-t11 : tie.Need-cast-t11
+cast-t11 c = let h = subst Ranged (c .before .entry .given .1) (c .before .before .before .pre) in omega arith
 
 enum-known-entry-2 : tie.Need-enum-known-entry-2
 enum-known-entry-2 c = search needs
@@ -38,6 +38,12 @@ enum-told-5 c = search needs
 
 enum-told-6 : tie.Need-enum-told-6
 enum-told-6 c = search needs
+
+enum-known-entry-3 : tie.Need-enum-known-entry-3
+enum-known-entry-3 c = search needs
+
+cast-t14 : tie.Need-cast-t14
+cast-t14 c = let h = subst Ranged (c .before .entry3 .given .1) (c .before .before .before .pre) in omega (arith, h .4)
 
 returns : tie.Need-returns
 unfolding withLine sessionOf
@@ -75,6 +81,15 @@ returns-8 : tie.Need-returns-8
 unfolding withLine sessionOf
 returns-8 c = λ s h. rw (c .enum-told6 .given .1) (stored-again (s .sessions) 0 (rw (c .enum-told6 .given .1) at h))
 
+returns-9 : tie.Need-returns-9
+unfolding withLine sessionOf
+returns-9 c =
+    λ s h.
+    let r = subst Ranged (c .before .entry3 .given .1) (c .before .before .before .pre) in
+    let x = grid-fits (c .before .entry3 .given .0 .1 .0) (r .1) in
+    let y = grid-fits (c .before .entry3 .given .0 .1 .1 .0) (r .2) in
+    rw (c .before .entry3 .given .1, ← rw (c .before .entry3 .given .1) at h) (simp toZ-ofZ)
+
 pub session-after-spec : {M : Type 1} → statement M
 session-after-spec =
     tie.close
@@ -84,10 +99,12 @@ session-after-spec =
     enum-told-3
     enum-told-4
     enum-known-entry
-    cast-t8
+    cast-t11
     enum-known-entry-2
     enum-told-5
     enum-told-6
+    enum-known-entry-3
+    cast-t14
     returns
     returns-2
     returns-3
@@ -95,4 +112,5 @@ session-after-spec =
     returns-5
     returns-6
     returns-7
-    returns-8)
+    returns-8
+    returns-9)

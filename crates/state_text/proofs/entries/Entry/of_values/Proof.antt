@@ -4,7 +4,7 @@ use mathlib.Core.Path.{_≡_, sym, _∙_}
 use mir.Syntax.{w32}
 use mir.Val.{toZ, ofZ}
 use Rattle.state_text.specs.Entries.{entryOf}
-use Rattle.state_text.proofs.Values.{entry-did}
+use Rattle.state_text.proofs.Values.{entry-last}
 use borrow.Author.Needs.{needs}
 use Rattle.state_text.proofs.entries.Entry.of_values.Statement.{statement}
 use Rattle.state_text.proofs.entries.Entry.of_values.Tie as tie
@@ -72,6 +72,24 @@ element-copy-out-t59 c = search needs
 element-copy-out-t62 : tie.Need-element-copy-out-t62
 element-copy-out-t62 c = search needs
 
+element-copy-out-t65 : tie.Need-element-copy-out-t65
+element-copy-out-t65 c = search needs
+
+element-copy-out-coordinate-3 : tie.Need-element-copy-out-coordinate-3
+element-copy-out-coordinate-3 c = search needs
+
+coordinate-requires-3 : tie.Need-coordinate-requires-3
+coordinate-requires-3 c κs = search needs
+
+element-copy-out-coordinate-4 : tie.Need-element-copy-out-coordinate-4
+element-copy-out-coordinate-4 c = search needs
+
+coordinate-requires-4 : tie.Need-coordinate-requires-4
+coordinate-requires-4 c κs = search needs
+
+element-copy-out-t76 : tie.Need-element-copy-out-t76
+element-copy-out-t76 c = search needs
+
 returns : tie.Need-returns
 unfolding entryOf
 returns c = rw (c .before .match .keys1)
@@ -104,9 +122,16 @@ unfolding entryOf
 returns-7 c = rw (c .before .before .match .keys7)
 
 returns-8 : tie.Need-returns-8
-returns-8 c =
-    let other = c .before .before .before .match .rest in
-    sym (entry-did (c .before .before .before .before .args .form) _ (other .0 .0 .0 .0 .0 .0 .1) (other .0 .0 .0 .0 .0 .1) (other .0 .0 .0 .0 .1) (other .0 .0 .0 .1) (other .0 .0 .1) (other .0 .1) (other .1))
+unfolding entryOf
+returns-8 c = rw (c .before .before .before .match .keys8)
+
+returns-9 : tie.Need-returns-9
+returns-9 c =
+    let x : toZ w32 (ofZ w32 (c .before .before .before .coordinate3 .result)) ≡ c .before .before .before .coordinate3 .result = search needs in
+    let y : toZ w32 (ofZ w32 (c .before .coordinate4 .result)) ≡ c .before .coordinate4 .result = search needs in
+    let other = c .before .before .before .before .before .before .match .rest in
+    rw (x ∙ c .before .before .before .coordinate3 .ensures, y ∙ c .before .coordinate4 .ensures)
+    (sym (entry-last (c .before .before .before .before .before .before .before .args .form) _ (other .0 .0 .0 .0 .0 .0 .0 .1) (other .0 .0 .0 .0 .0 .0 .1) (other .0 .0 .0 .0 .0 .1) (other .0 .0 .0 .0 .1) (other .0 .0 .0 .1) (other .0 .0 .1) (other .0 .1) (other .1)))
 
 pub of-values-spec : {M : Type 1} → statement M
 of-values-spec =
@@ -133,6 +158,12 @@ of-values-spec =
     element-copy-out-t56
     element-copy-out-t59
     element-copy-out-t62
+    element-copy-out-t65
+    element-copy-out-coordinate-3
+    coordinate-requires-3
+    element-copy-out-coordinate-4
+    coordinate-requires-4
+    element-copy-out-t76
     returns
     returns-2
     returns-3
@@ -140,4 +171,5 @@ of-values-spec =
     returns-5
     returns-6
     returns-7
-    returns-8)
+    returns-8
+    returns-9)

@@ -62,6 +62,12 @@ column-rank-requires-8 c κs = let h = subst Ranged (c .before .self7 .given .1)
 column-rank-requires-9 : tie.Need-column-rank-requires-9
 column-rank-requires-9 c κs = let h = subst Ranged (c .before .before .self7 .given .1) (c .before .before .before .before .pre) in (omega arith, omega (arith, c .column-rank8 .ensures), omega arith, omega arith)
 
+enum-known-self-8 : tie.Need-enum-known-self-8
+enum-known-self-8 c = search needs
+
+column-rank-requires-10 : tie.Need-column-rank-requires-10
+column-rank-requires-10 c κs = let h = subst Ranged (c .before .self8 .given .1) (c .before .before .before .pre) in (omega arith, omega arith, omega arith, omega arith)
+
 returns : tie.Need-returns
 unfolding rank
 returns c = rw (c .enum-told .given .1)
@@ -94,6 +100,10 @@ returns-8 : tie.Need-returns-8
 unfolding rank
 returns-8 c = rw (c .before .before .before .self7 .given .1) (omega (arith, c .column-rank9 .ensures, c .before .column-rank8 .ensures))
 
+returns-9 : tie.Need-returns-9
+unfolding rank
+returns-9 c = rw (c .before .before .self8 .given .1) (omega (arith, c .column-rank10 .ensures))
+
 pub rank-spec : {M : Type 1} → statement M
 rank-spec =
     tie.close
@@ -116,6 +126,8 @@ rank-spec =
     enum-known-self-7
     column-rank-requires-8
     column-rank-requires-9
+    enum-known-self-8
+    column-rank-requires-10
     returns
     returns-2
     returns-3
@@ -123,4 +135,5 @@ rank-spec =
     returns-5
     returns-6
     returns-7
-    returns-8)
+    returns-8
+    returns-9)

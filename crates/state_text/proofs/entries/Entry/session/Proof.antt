@@ -29,6 +29,9 @@ enum-known-self-3 c = search needs
 enum-told-5 : tie.Need-enum-told-5
 enum-told-5 c = search needs
 
+enum-known-self-4 : tie.Need-enum-known-self-4
+enum-known-self-4 c = search needs
+
 returns : tie.Need-returns
 unfolding sessionOf
 returns c = rw (c .enum-told .given .1)
@@ -61,6 +64,10 @@ returns-8 : tie.Need-returns-8
 unfolding sessionOf
 returns-8 c = rw (c .enum-told5 .given .1)
 
+returns-9 : tie.Need-returns-9
+unfolding sessionOf
+returns-9 c = rw (c .before .self4 .given .1)
+
 pub session-spec : {M : Type 1} → statement M
 session-spec =
     tie.close
@@ -73,6 +80,7 @@ session-spec =
     enum-known-self-2
     enum-known-self-3
     enum-told-5
+    enum-known-self-4
     returns
     returns-2
     returns-3
@@ -80,4 +88,5 @@ session-spec =
     returns-5
     returns-6
     returns-7
-    returns-8)
+    returns-8
+    returns-9)

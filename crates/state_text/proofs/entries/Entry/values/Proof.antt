@@ -38,6 +38,15 @@ enum-known-self-7 c = search needs
 enum-known-self-8 : tie.Need-enum-known-self-8
 enum-known-self-8 c = search needs
 
+enum-known-self-9 : tie.Need-enum-known-self-9
+enum-known-self-9 c = search needs
+
+signed-code-requires-3 : tie.Need-signed-code-requires-3
+signed-code-requires-3 c κs = search needs
+
+signed-code-requires-4 : tie.Need-signed-code-requires-4
+signed-code-requires-4 c κs = search needs
+
 returns : tie.Need-returns
 unfolding valuesOf
 returns c = rw (c .before .self .given .1)
@@ -73,6 +82,13 @@ returns-8 : tie.Need-returns-8
 unfolding valuesOf
 returns-8 c = rw (c .before .self8 .given .1)
 
+returns-9 : tie.Need-returns-9
+unfolding valuesOf
+returns-9 c =
+    let x : toZ w32 (ofZ w32 (c .before .before .before .self9 .given .0 .1 .0)) ≡ c .before .before .before .self9 .given .0 .1 .0 = search needs in
+    let y : toZ w32 (ofZ w32 (c .before .before .before .self9 .given .0 .1 .1 .0)) ≡ c .before .before .before .self9 .given .0 .1 .1 .0 = search needs in
+    rw (c .before .before .before .self9 .given .1, c .before .signed-code3 .ensures, c .signed-code4 .ensures, x, y)
+
 pub values-spec : {M : Type 1} → statement M
 values-spec =
     tie.close
@@ -87,6 +103,9 @@ values-spec =
     signed-code-requires-2
     enum-known-self-7
     enum-known-self-8
+    enum-known-self-9
+    signed-code-requires-3
+    signed-code-requires-4
     returns
     returns-2
     returns-3
@@ -94,4 +113,5 @@ values-spec =
     returns-5
     returns-6
     returns-7
-    returns-8)
+    returns-8
+    returns-9)
