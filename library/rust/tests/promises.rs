@@ -340,7 +340,7 @@ fn the_longest_state_fits_its_space() {
     assert!(is_untouched(&short));
 }
 
-/// Everything assigned or lent, granted, open, active and done, with the longest times, users and positions.
+/// Everything assigned or lent, granted, open, active and done, with the longest times, users, positions and errors.
 fn longest_state() -> Vec<u8> {
     let mut text = String::from("(now 3155759998)\n");
     let pairs = |first, second| (0..first).flat_map(move |one| (0..second).map(move |other| (one, other)));
@@ -355,7 +355,7 @@ fn longest_state() -> Vec<u8> {
         text += &format!("(loan 63 {borrower} 31 3155759999)\n");
     }
     for session in 0..32 {
-        text += &format!("(open {session} 63)\n(place {session} -1000000 -1000000)\n");
+        text += &format!("(open {session} 63)\n(place {session} -1000000 -1000000 1000)\n");
         for role in 0..32 {
             text += &format!("(active {session} {role})\n");
         }
