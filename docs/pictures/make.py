@@ -112,8 +112,8 @@ ERROR = 2
 
 
 def errors():
-    in_circle = {(3, 0): "start", (4, -4): "start", (-6, 5): "end"}
-    in_box = {(1, 3): "start", (4, 6): "end", (5, 7): "start"}
+    in_circle = {(3, 0): "start", (4, -4): "start", (-6, 5): "start"}
+    in_box = {(1, 3): "start", (-6, -1): "start", (5, 7): "start"}
     parts = [text(24, 30, f"Every whole metre asked of the gate: is a position known to {ERROR} metres inside, outside or unsure?", size=15)]
     parts += error_grid(24, 66, "(circle 0 0 5)", in_circle)
     parts += error_grid(474, 66, "(box -4 -2 3 5)", in_box)
