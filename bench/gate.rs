@@ -77,11 +77,19 @@ pub struct Step {
     pub y: i64,
 }
 
+// Whole metres; the error is 0 where none is reported.
+#[derive(Clone, Copy)]
+pub struct Position {
+    pub x: i32,
+    pub y: i32,
+    pub error: u32,
+}
+
 #[derive(Clone, Copy, Default)]
 pub struct Session {
     // None where the session is closed.
     pub user: Option<usize>,
-    pub position: Option<(i64, i64)>,
+    pub position: Option<Position>,
     pub active: u32,
 }
 
@@ -164,7 +172,7 @@ pub fn step<const PLAIN: bool>(state: &mut State, rules: &[Rule], step: &Step) -
         ACCESS => gate.access(first, second, third),
         FINISH => gate.finish(first),
         CLOSE => gate.session_event(first, |session| *session = Session::default()),
-        MOVE => gate.session_event(first, |session| session.position = Some((step.x, step.y))),
+        MOVE => gate.session_event(first, |session| session.position = Some(position_of(step))),
         LOST => gate.session_event(first, |session| session.position = None),
         CLOCK => gate.clock(step.first),
         LEND => gate.lend(Loan { lender: first, borrower: second, role: third, until: step.fourth }),
@@ -182,7 +190,7 @@ fn in_range(step: &Step) -> bool {
         OPEN => first < 32 && second < 64,
         ACCESS => first < 32 && second < 32 && third < 32,
         FINISH | CLOSE | LOST => first < 32,
-        MOVE => first < 32 && on_grid(x) && on_grid(y),
+        MOVE => first < 32 && on_grid(x) && on_grid(y) && fourth <= 1000,
         CLOCK => first <= LAST_TIME,
         LEND => first < 64 && second < 64 && third < 32 && fourth <= LAST_TIME,
         RECALL => first < 64 && second < 64 && third < 32,
@@ -550,16 +558,33 @@ impl State {
     }
 }
 
-// 'Places': "An unknown position is neither".
-fn side_holds(inside: bool, shape: &Shape, position: Option<(i64, i64)>) -> bool {
-    let Some((px, py)) = position else {
+fn position_of(step: &Step) -> Position {
+    Position { x: step.x as i32, y: step.y as i32, error: step.fourth as u32 }
+}
+
+// 'Places': "An unknown position is neither"; 2026-04: nor is an unsure one.
+fn side_holds(inside: bool, shape: &Shape, position: Option<Position>) -> bool {
+    let Some(Position { x: px, y: py, error }) = position else {
         return false;
     };
-    let within = match *shape {
-        Shape::Circle { x, y, radius } => (px - x) * (px - x) + (py - y) * (py - y) <= radius * radius,
-        Shape::Box { left, bottom, right, top } => left <= px && px <= right && bottom <= py && py <= top,
-    };
-    within == inside
+    let (px, py, error) = (px as i64, py as i64, error as i64);
+    match *shape {
+        Shape::Circle { x, y, radius } => {
+            let distance = (px - x) * (px - x) + (py - y) * (py - y);
+            if inside {
+                error <= radius && distance <= (radius - error) * (radius - error)
+            } else {
+                distance > (radius + error) * (radius + error)
+            }
+        }
+        Shape::Box { left, bottom, right, top } if inside => {
+            left + error <= px && px + error <= right && bottom + error <= py && py + error <= top
+        }
+        Shape::Box { left, bottom, right, top } => {
+            let (dx, dy) = (px - px.clamp(left, right), py - py.clamp(bottom, top));
+            dx * dx + dy * dy > error * error
+        }
+    }
 }
 
 // ---- 'Calendar'

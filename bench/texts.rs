@@ -8,7 +8,7 @@ mod checksum;
 mod gate;
 
 use gate::{
-    has, on_grid, Rule, Session, Shape, State, Step, Term, Week, ACCESS, ACTIVATE, ASSIGN, CLOCK, CLOSE, DEACTIVATE, FINISH, GRANT, LAST_TIME, LOST,
+    has, on_grid, Position, Rule, Session, Shape, State, Step, Term, Week, ACCESS, ACTIVATE, ASSIGN, CLOCK, CLOSE, DEACTIVATE, FINISH, GRANT, LAST_TIME, LOST,
     MOVE, OPEN, TAKE, WITHDRAW,
 };
 use std::hint::black_box;
@@ -455,7 +455,7 @@ fn put_saved(form: u64, [a, b, c]: [i64; 3], state: &mut State) -> Option<()> {
         3 => state.sessions[i] = Session { user: Some(j), ..Session::default() },
         4 => {
             state.sessions[i].user?;
-            state.sessions[i].position = Some((b, c));
+            state.sessions[i].position = Some(Position { x: b as i32, y: c as i32, error: 0 });
         }
         5 => {
             let user = state.sessions[i].user?;
@@ -522,11 +522,11 @@ fn write_state(state: &State, out: &mut Vec<u8>) {
             continue;
         };
         put_line(b"open", &[i as u64, user as u64], out);
-        if let Some((x, y)) = session.position {
+        if let Some(Position { x, y, .. }) = session.position {
             out.extend_from_slice(b"(place ");
             put_number(i as u64, out);
-            put_signed(x, out);
-            put_signed(y, out);
+            put_signed(x as i64, out);
+            put_signed(y as i64, out);
             out.extend_from_slice(b")\n");
         }
         put_set(b"active", &[i as u64], session.active as u64, out);

@@ -3,6 +3,7 @@
 use Prim.Native.Nat.{ℕ, _-_, _%_}
 use Prim.Native.Char.{code}
 use Prim.Native.String.{String, charAt}
+use mathlib.Core.Path.{_≡_}
 use mathlib.Core.Bool.{Bool, true, false, cond, _&&_}
 use mathlib.Core.List.{List, [], _∷_}
 use lib.Dec.{ltb, leb, eqb}
@@ -67,6 +68,10 @@ isSlotSyntax TimeOfDay = true
 
 unfoldable pub isSlot : ℕ → Bool
 isSlot c = isSlotSyntax (syntaxOf c)
+
+-- the mark of a plain number
+abbrev pub IsPlain : ℕ → Type 0
+IsPlain c = Number ≡ syntaxOf c
 
 -- a value without its minus
 unfoldable pub amountOf : ℕ → ℕ

@@ -1,7 +1,7 @@
 // The kinds of numbers that stand in a line, each with its syntax and its range.
 ghost use mathlib.Core.Path.{_≡_};
 ghost use mathlib.Core.Bool.{true};
-ghost use Rattle.forms.specs.Kinds.{kindOf, syntaxOf, inRange, isSlot, amountOf};
+ghost use Rattle.forms.specs.Kinds.{kindOf, syntaxOf, inRange, isSlot, IsPlain, amountOf};
 use crate::numbers::Number;
 use sets::word64;
 
@@ -95,6 +95,13 @@ pub(crate) fn is_slot(mark: u8) -> bool
         return word64::member(Kind::MARKS_BELOW_64, mark as usize);
     }
     word64::member(Kind::MARKS_FROM_64, (mark - 64) as usize)
+}
+
+// Most marks stand before `+` or between `.` and `[`, and all of these are plain numbers'.
+pub(crate) fn is_plain(mark: u8) -> bool
+    ensures { λ r. ⌜ (r ≡ true → isSlot mark ≡ true → IsPlain mark) ⌝ }
+{
+    (mark < b'+') | ((b'.' < mark) & (mark < b'['))
 }
 
 // How the number of a mark is written.

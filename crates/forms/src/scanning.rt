@@ -6,6 +6,7 @@ ghost use Rattle.forms.specs.Numbers.{readByte, valueAndLength, nothing}
 ghost use Rattle.forms.specs.Kinds.{isSlot};
 ghost use Rattle.forms.specs.Forms.{readItem, scan, scanned, notFound};
 use crate::kinds::Syntax;
+use crate::kinds::is_plain;
 use crate::kinds::is_slot;
 use crate::kinds::syntax_of;
 use crate::numbers::Number;
@@ -83,6 +84,9 @@ fn read_item(mark: u8, text: &[u8]) -> Number
     requires { ⌜ isSlot mark ≡ true ⌝ }
     ensures { λ r. ⌜ r ≡ readItem mark (now (text .entry)) ⌝ }
 {
+    if is_plain(mark) {
+        return read_number(text);
+    }
     let syntax = syntax_of(mark);
     match syntax {
         Syntax::Literal => read_byte(mark, text),

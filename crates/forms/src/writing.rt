@@ -8,6 +8,7 @@ ghost use Rattle.forms.specs.Kinds.{isSlot};
 ghost use Rattle.forms.specs.Forms.{itemText, fill};
 ghost use Rattle.forms.specs.Writing.{Wrote};
 use crate::kinds::Syntax;
+use crate::kinds::is_plain;
 use crate::kinds::is_slot;
 use crate::kinds::syntax_of;
 use crate::numbers::Number;
@@ -44,6 +45,9 @@ fn put_item(mark: u8, value: u64, out: &mut [u8], at: usize) -> usize
     requires { ⌜ isSlot mark ≡ true ⌝ }
     ensures { λ r. ⌜ Wrote (now (out .entry)) at (itemText mark value) r (now (out .exit)) ⌝ }
 {
+    if is_plain(mark) {
+        return put_number(value, out, at);
+    }
     let syntax = syntax_of(mark);
     match syntax {
         Syntax::Literal => put(mark, out, at),
