@@ -44,7 +44,7 @@ use Rattle.enforcement.specs.Steps.{Checked, passes, refuses, refuseIf, 
 use Rattle.enforcement.specs.Decisions.{granted, refused}
 use Rattle.enforcement.specs.Gate.{testsSelected, grantedNext, refusedNext, requestNext, passedNext, checkedNext, decide, stepOf, decisionOf, namedRule}
 use Rattle.enforcement.specs.Narrow.{lowestSelected}
-use Rattle.enforcement.specs.Causes.{Writes, Cause, malformed, past, open-already, activate-closed, deactivate-closed, access-closed, close-closed, move-closed, lost-closed, assign-already, grant-already, activate-already, withdraw-not, take-not, deactivate-not, activate-unheld, withdraw-active, access-uncarried, lend-already, recall-none, withdraw-lent-out, lend-unassigned, lend-full, lend-ended, checksOf, FirstCause, Unaccepted, late, user-past, off-grid, keeps-user, keeps-position, keeps-role, too-many-loans, loan-past, loans-unordered}
+use Rattle.enforcement.specs.Causes.{Writes, Cause, malformed, past, open-already, activate-closed, deactivate-closed, access-closed, close-closed, move-closed, lost-closed, assign-already, grant-already, activate-already, withdraw-not, take-not, deactivate-not, activate-unheld, withdraw-active, access-uncarried, lend-already, recall-none, withdraw-lent-out, lend-unassigned, lend-full, lend-ended, checksOf, FirstCause, Unaccepted, late, user-past, position-outside, keeps-user, keeps-position, keeps-role, too-many-loans, loan-past, loans-unordered}
 use Rattle.enforcement.specs.Claims.{TakesTarget}
 use Rattle.enforcement.specs.declared.states.State.{State}
 use Rattle.steps.specs.declared.steps.Step.{Step}
@@ -348,7 +348,7 @@ module _ (s : State) where
     where
       go : (b : Bool) → isOpen s i ≡ b → cond b (ltb (userOf s i) 64 && positionInRange (positionOf s i)) (eqb (userOf s i) 0 && (isUnknown (positionOf s i) && isEmpty (wordAt (s .active) i))) ≡ false → Unaccepted s
       go true opened h =
-          ⊎-elim (λ e. user-past i low opened (ltb-false (userOf s i) 64 e)) (off-grid i low opened)
+          ⊎-elim (λ e. user-past i low opened (ltb-false (userOf s i) 64 e)) (position-outside i low opened)
           (of-and-false (ltb (userOf s i) 64) (positionInRange (positionOf s i)) h)
       go false closed h =
           ⊎-elim (λ e. keeps-user i low closed (eqb-false (userOf s i) 0 e))
@@ -383,7 +383,7 @@ module _ (s : State) where
   unfolding loansAccepted
   not-accepted (late h) time loans each = let t = leb-true (s .time) 3155759999 time in omega arith
   not-accepted (user-past i low opened h) time loans each = let t = open-session i opened (each i low) in omega arith
-  not-accepted (off-grid i low opened h) time loans each = clash (open-session i opened (each i low) .1) h
+  not-accepted (position-outside i low opened h) time loans each = clash (open-session i opened (each i low) .1) h
   not-accepted (keeps-user i low closed h) time loans each = h (closed-session i closed (each i low) .0)
   not-accepted (keeps-position i low closed h) time loans each = h (closed-session i closed (each i low) .1)
   not-accepted (keeps-role i r low closed h) time loans each = clash h (rw (closed-session i closed (each i low) .2) (member-empty r))

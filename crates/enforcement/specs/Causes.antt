@@ -108,7 +108,7 @@ FirstCause s action (number ∷ rest) n = ((n ≡ number) × Cause s action numb
 pub data Unaccepted (s : State) : Type 0 where
   late : 3155759999 < s .time → Unaccepted s
   user-past : (i : ℕ) → i < 32 → isOpen s i ≡ true → 64 ≤ userOf s i → Unaccepted s
-  off-grid : (i : ℕ) → i < 32 → isOpen s i ≡ true → positionInRange (positionOf s i) ≡ false → Unaccepted s
+  position-outside : (i : ℕ) → i < 32 → isOpen s i ≡ true → positionInRange (positionOf s i) ≡ false → Unaccepted s
   keeps-user : (i : ℕ) → i < 32 → isOpen s i ≡ false → (userOf s i ≡ 0 → ⊥) → Unaccepted s
   keeps-position : (i : ℕ) → i < 32 → isOpen s i ≡ false → (positionOf s i ≡ Unknown → ⊥) → Unaccepted s
   keeps-role : (i r : ℕ) → i < 32 → isOpen s i ≡ false → activeRole s i r ≡ true → Unaccepted s
