@@ -17,12 +17,9 @@ use Rattle.places.proofs.Circles.{moved}
 
 -- ---- e or more within a side
 
--- low + e ≤ z, and z + e ≤ high
-low-parts : (low z : ℤ) (e : ℕ) → (low +ℤ pos e) ≤ℤ z → above low + (e + below z) ≤ above z + below low
-low-parts low z e h = omega (arith, ordered (low +ℤ pos e) z h, sum low (pos e))
-
-high-parts : (z high : ℤ) (e : ℕ) → (z +ℤ pos e) ≤ℤ high → above z + (e + below high) ≤ above high + below z
-high-parts z high e h = omega (arith, ordered (z +ℤ pos e) high h, sum z (pos e))
+-- low + e ≤ z
+room : (low z : ℤ) (e : ℕ) → (low +ℤ pos e) ≤ℤ z → above low + (e + below z) ≤ above z + below low
+room low z e h = omega (arith, ordered (low +ℤ pos e) z h, sum low (pos e))
 
 -- the same as the code tests it
 pub side-tests : (low z : ℤ) (e : ℕ) → (leZ low z && leb e (natAbs (z -ℤ low))) ≡ leZ (low +ℤ pos e) z
@@ -32,7 +29,7 @@ side-tests low z e = same-test (leZ low z && leb e (natAbs (z -ℤ low))) (leZ (
     to h =
         let parts = and-eq-true-iff (leZ low z) (leb e (natAbs (z -ℤ low))) .0 h in
         let order = ordered low z (at-mostℤ low z .0 (parts .0)) in
-        let room = leb-true e (natAbs (z -ℤ low)) (parts .1) in
+        let most = leb-true e (natAbs (z -ℤ low)) (parts .1) in
         at-mostℤ (low +ℤ pos e) z .1
         (to-order (low +ℤ pos e) z
         (⊎-elim
@@ -42,7 +39,7 @@ side-tests low z e = same-test (leZ low z && leb e (natAbs (z -ℤ low))) (leZ (
 
     from : leZ (low +ℤ pos e) z ≡ true → (leZ low z && leb e (natAbs (z -ℤ low))) ≡ true
     from h =
-        let order = low-parts low z e (at-mostℤ (low +ℤ pos e) z .0 h) in
+        let order = room low z e (at-mostℤ (low +ℤ pos e) z .0 h) in
         and-eq-true-iff (leZ low z) (leb e (natAbs (z -ℤ low))) .1
         (at-mostℤ low z .1 (to-order low z (omega arith)), le-leb e (natAbs (z -ℤ low)) (omega (arith, difference z low, size (z -ℤ low))))
 
@@ -50,12 +47,12 @@ side-tests low z e = same-test (leZ low z && leb e (natAbs (z -ℤ low))) (leZ (
 pub low-every : (low z z′ : ℤ) (e k : ℕ) → (low +ℤ pos e) ≤ℤ z → natAbs (z′ -ℤ pos k *ℤ z) ≤ k * e → (pos k *ℤ low) ≤ℤ z′
 low-every low z z′ e k h near =
     to-order (pos k *ℤ low) z′
-    (omega (arith, mul-le-mul (le-refl k) (low-parts low z e h), size (z′ -ℤ pos k *ℤ z), difference-scaled z′ z k, above-times k low, below-times k low))
+    (omega (arith, mul-le-mul (le-refl k) (room low z e h), size (z′ -ℤ pos k *ℤ z), difference-scaled z′ z k, above-times k low, below-times k low))
 
 pub high-every : (z high z′ : ℤ) (e k : ℕ) → (z +ℤ pos e) ≤ℤ high → natAbs (z′ -ℤ pos k *ℤ z) ≤ k * e → z′ ≤ℤ (pos k *ℤ high)
 high-every z high z′ e k h near =
     to-order z′ (pos k *ℤ high)
-    (omega (arith, mul-le-mul (le-refl k) (high-parts z high e h), size (z′ -ℤ pos k *ℤ z), difference-scaled z′ z k, above-times k high, below-times k high))
+    (omega (arith, mul-le-mul (le-refl k) (room z high e h), size (z′ -ℤ pos k *ℤ z), difference-scaled z′ z k, above-times k high, below-times k high))
 
 -- else the point moved by its error towards the side is
 pub low-passed : (low z : ℤ) (e : ℕ) → leZ (low +ℤ pos e) z ≡ false → (pos 1 *ℤ low) ≤ℤ moved 1 z e (negsuc 0) → ⊥

@@ -98,9 +98,5 @@ module _ (x y c d : ℤ) (q e : ℕ) where
       left s =
           omega (arith, size (moved 1 x e (negsuc 0) -ℤ pos 1 *ℤ c), sum-scaled x (negsuc 0) 1 e, difference-scaled (moved 1 x e (negsuc 0)) c 1, difference x c)
 
-  pub larger-error : q < e → (w : ℤ) × Near 1 (moved 1 x e w) (moved 1 y 0 w) × (In 1 (moved 1 x e w) (moved 1 y 0 w) → ⊥)
-  larger-error less = (
-    away .0,
-    rw (moved-by 1 x e (away .0), moved-by 1 y 0 (away .0), away .1) (omega arith),
-    λ inside. omega (arith, mul-le-mul (away .2) (away .2), square-less q e less, inside),
-  )
+  pub larger-error : q < e → (w : ℤ) × (natAbs w ≡ 1) × (In 1 (moved 1 x e w) (moved 1 y 0 w) → ⊥)
+  larger-error less = (away .0, away .1, λ inside. omega (arith, mul-le-mul (away .2) (away .2), square-less q e less, inside))

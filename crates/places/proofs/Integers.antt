@@ -118,22 +118,15 @@ size-between u v w k e =
 pub size-none : (z : ℤ) → natAbs (z -ℤ z) ≡ 0
 size-none z = ⊎-elim (λ s. omega (arith, size (z -ℤ z), difference z z)) (λ s. omega (arith, size (z -ℤ z), difference z z)) (one-side (z -ℤ z))
 
-pub size-swapped : (a b : ℤ) → natAbs (a -ℤ b) ≡ natAbs (b -ℤ a)
-size-swapped a b = ⊎-elim (λ s. either s) (λ s. either′ s) (one-side (a -ℤ b))
-  where
-    either : below (a -ℤ b) ≡ 0 → natAbs (a -ℤ b) ≡ natAbs (b -ℤ a)
-    either s =
-        ⊎-elim
-        (λ t. omega (arith, size (a -ℤ b), size (b -ℤ a), difference a b, difference b a))
-        (λ t. omega (arith, size (a -ℤ b), size (b -ℤ a), difference a b, difference b a))
-        (one-side (b -ℤ a))
+-- u is w the other way round
+size-opposite : (u w : ℤ) → above u + above w ≡ below u + below w → natAbs u ≡ natAbs w
+size-opposite (pos u) (pos w) e = omega arith
+size-opposite (pos u) (negsuc w) e = omega arith
+size-opposite (negsuc u) (pos w) e = omega arith
+size-opposite (negsuc u) (negsuc w) e = absurd (omega arith)
 
-    either′ : above (a -ℤ b) ≡ 0 → natAbs (a -ℤ b) ≡ natAbs (b -ℤ a)
-    either′ s =
-        ⊎-elim
-        (λ t. omega (arith, size (a -ℤ b), size (b -ℤ a), difference a b, difference b a))
-        (λ t. omega (arith, size (a -ℤ b), size (b -ℤ a), difference a b, difference b a))
-        (one-side (b -ℤ a))
+pub size-swapped : (a b : ℤ) → natAbs (a -ℤ b) ≡ natAbs (b -ℤ a)
+size-swapped a b = size-opposite (a -ℤ b) (b -ℤ a) (omega (arith, difference a b, difference b a))
 
 -- an integer of size 0 is the difference of equals
 pub same : (a b : ℤ) → natAbs (a -ℤ b) ≡ 0 → a ≡ b

@@ -118,30 +118,17 @@ some-within (Box a b c d) point accepted n =
         let dy = beyond-nearest b d (point .y) y′ (within .1 .0) (within .1 .1) in
         omega (arith, mul-le-mul dx dx, mul-le-mul dy dy))
 
--- the point moved by its error along one coordinate
-moved-x : (point : Point) (Says : ℕ → ℤ → ℤ → Type 0) (w : ℤ) → natAbs w ≡ 1 → Says 1 (moved 1 (point .x) (point .error) w) (moved 1 (point .y) 0 w) → SomePoint point Says
-moved-x point Says w one says =
+-- the point moved by m along x and by n along y, which together are no more than its error
+moved-point : (point : Point) (Says : ℕ → ℤ → ℤ → Type 0) (w : ℤ) (m n : ℕ) → natAbs w ≡ 1 → m * m + n * n ≤ point .error * point .error → Says 1 (moved 1 (point .x) m w) (moved 1 (point .y) n w) → SomePoint point Says
+moved-point point Says w m n one near says =
     record {
       scale = 1;
-      x′ = moved 1 (point .x) (point .error) w;
-      y′ = moved 1 (point .y) 0 w;
+      x′ = moved 1 (point .x) m w;
+      y′ = moved 1 (point .y) n w;
       positive = omega arith;
       near =
-          squares-most (moved 1 (point .x) (point .error) w -ℤ pos 1 *ℤ point .x) (moved 1 (point .y) 0 w -ℤ pos 1 *ℤ point .y) (1 * point .error) .1
-          (rw (moved-by 1 (point .x) (point .error) w, moved-by 1 (point .y) 0 w, one) (omega arith));
-      says = says;
-    }
-
-moved-y : (point : Point) (Says : ℕ → ℤ → ℤ → Type 0) (w : ℤ) → natAbs w ≡ 1 → Says 1 (moved 1 (point .x) 0 w) (moved 1 (point .y) (point .error) w) → SomePoint point Says
-moved-y point Says w one says =
-    record {
-      scale = 1;
-      x′ = moved 1 (point .x) 0 w;
-      y′ = moved 1 (point .y) (point .error) w;
-      positive = omega arith;
-      near =
-          squares-most (moved 1 (point .x) 0 w -ℤ pos 1 *ℤ point .x) (moved 1 (point .y) (point .error) w -ℤ pos 1 *ℤ point .y) (1 * point .error) .1
-          (rw (moved-by 1 (point .x) 0 w, moved-by 1 (point .y) (point .error) w, one) (omega arith));
+          squares-most (moved 1 (point .x) m w -ℤ pos 1 *ℤ point .x) (moved 1 (point .y) n w -ℤ pos 1 *ℤ point .y) (1 * point .error) .1
+          (rw (moved-by 1 (point .x) m w, moved-by 1 (point .y) n w, one) (omega arith));
       says = says;
     }
 
@@ -168,16 +155,8 @@ some-beyond (Circle x y q) point accepted n = by-error (leb (point .error) q) re
     above-all : q < point .error → SomePoint point (BeyondAt (Circle x y q))
     above-all less =
         let found = circle.larger-error (point .x) (point .y) x y q (point .error) less in
-        let x′ = moved 1 (point .x) (point .error) (found .0) in
-        let y′ = moved 1 (point .y) 0 (found .0) in
-        record {
-          scale = 1;
-          x′ = x′;
-          y′ = y′;
-          positive = omega arith;
-          near = squares-most (x′ -ℤ pos 1 *ℤ point .x) (y′ -ℤ pos 1 *ℤ point .y) (1 * point .error) .1 (found .1);
-          says = λ within. found .2 (squares-most (x′ -ℤ pos 1 *ℤ x) (y′ -ℤ pos 1 *ℤ y) (1 * q) .0 within);
-        }
+        moved-point point (BeyondAt (Circle x y q)) (found .0) (point .error) 0 (found .1) (omega arith)
+        (λ within. found .2 (squares-most (moved 1 (point .x) (point .error) (found .0) -ℤ pos 1 *ℤ x) (moved 1 (point .y) 0 (found .0) -ℤ pos 1 *ℤ y) (1 * q) .0 within))
 
     by-error : (t : Bool) → leb (point .error) q ≡ t → SomePoint point (BeyondAt (Circle x y q))
     by-error true test =
@@ -192,10 +171,10 @@ some-beyond (Box a b c d) point accepted n =
     by-sides (leZ (a +ℤ pos (point .error)) (point .x)) (leZ (point .x +ℤ pos (point .error)) c) (leZ (b +ℤ pos (point .error)) (point .y)) (leZ (point .y +ℤ pos (point .error)) d) refl refl refl refl
   where
     by-sides : (left right bottom top : Bool) → leZ (a +ℤ pos (point .error)) (point .x) ≡ left → leZ (point .x +ℤ pos (point .error)) c ≡ right → leZ (b +ℤ pos (point .error)) (point .y) ≡ bottom → leZ (point .y +ℤ pos (point .error)) d ≡ top → SomePoint point (BeyondAt (Box a b c d))
-    by-sides false right bottom top l r u t = moved-x point (BeyondAt (Box a b c d)) (negsuc 0) refl (λ within. low-passed a (point .x) (point .error) l (within .0 .0))
-    by-sides true false bottom top l r u t = moved-x point (BeyondAt (Box a b c d)) (pos 1) refl (λ within. high-passed (point .x) c (point .error) r (within .0 .1))
-    by-sides true true false top l r u t = moved-y point (BeyondAt (Box a b c d)) (negsuc 0) refl (λ within. low-passed b (point .y) (point .error) u (within .1 .0))
-    by-sides true true true false l r u t = moved-y point (BeyondAt (Box a b c d)) (pos 1) refl (λ within. high-passed (point .y) d (point .error) t (within .1 .1))
+    by-sides false right bottom top l r u t = moved-point point (BeyondAt (Box a b c d)) (negsuc 0) (point .error) 0 refl (omega arith) (λ within. low-passed a (point .x) (point .error) l (within .0 .0))
+    by-sides true false bottom top l r u t = moved-point point (BeyondAt (Box a b c d)) (pos 1) (point .error) 0 refl (omega arith) (λ within. high-passed (point .x) c (point .error) r (within .0 .1))
+    by-sides true true false top l r u t = moved-point point (BeyondAt (Box a b c d)) (negsuc 0) 0 (point .error) refl (omega arith) (λ within. low-passed b (point .y) (point .error) u (within .1 .0))
+    by-sides true true true false l r u t = moved-point point (BeyondAt (Box a b c d)) (pos 1) 0 (point .error) refl (omega arith) (λ within. high-passed (point .y) d (point .error) t (within .1 .1))
     by-sides true true true true l r u t =
         absurd (n ((at-mostℤ (a +ℤ pos (point .error)) (point .x) .0 l, at-mostℤ (point .x +ℤ pos (point .error)) c .0 r), (at-mostℤ (b +ℤ pos (point .error)) (point .y) .0 u, at-mostℤ (point .y +ℤ pos (point .error)) d .0 t)))
 
