@@ -17,7 +17,9 @@ use Rattle.places.specs.declared.Point.{Point}
 use Rattle.places.specs.declared.Position.{Position}
 use Rattle.places.specs.declared.Position.the-variants.{Unknown, Known}
 use Rattle.places.specs.declared.Side.{Side}
+use Rattle.places.specs.Statements.{OnSide, EveryPoint}
 use Rattle.places.proofs.Meaning.{unknown-neither}
+use Rattle.places.proofs.Sureness.{side-agrees}
 use Rattle.rules.specs.Acceptance.{rulesOf, listAccepted}
 use Rattle.rules.specs.declared.families.Rule.{Rule}
 use Rattle.rules.specs.declared.families.Rule.the-variants.{StaticSeparation, TimeContext, LocationContext, HistorySeparation}
@@ -141,6 +143,15 @@ module _ (list : RuleList) (listed : listAccepted list ≡ true) (steps : List S
 
   pub hub-tablet-place : (r : ℕ) (side : Side) → In (LocationContext r side) (rulesOf list) → After (λ s. (i : ℕ) → i < 32 → activeRole s i r ≡ true → sideHolds side (positionOf s i) ≡ true) steps list
   hub-tablet-place r side = after (LocationContext r side)
+
+  -- 2026-04: "Every point of the error circle must agree with a sure outcome."
+  pub hub-tablet-surely : (r : ℕ) (side : Side) → In (LocationContext r side) (rulesOf list) →
+      After (λ s. (i : ℕ) → i < 32 → activeRole s i r ≡ true → (point : Point) × (positionOf s i ≡ Known point) × EveryPoint point (OnSide side)) steps list
+  hub-tablet-surely r side member =
+      along-map
+      (λ s. (i : ℕ) → i < 32 → activeRole s i r ≡ true → sideHolds side (positionOf s i) ≡ true)
+      (λ s. (i : ℕ) → i < 32 → activeRole s i r ≡ true → (point : Point) × (positionOf s i ≡ Known point) × EveryPoint point (OnSide side))
+      (λ s h i low active. side-agrees side (positionOf s i) (h i low active)) (hub-tablet-place r side member)
 
   -- "and closes when the crew drives off": a session that is moved to where the rule does not hold, or is lost, has the role no more
   pub hub-tablet-moved : (r : ℕ) (side : Side) → In (LocationContext r side) (rulesOf list) →

@@ -12,7 +12,7 @@ use lib.Dec.{leb}
 use lib.IntN.{ℤ, pos, negsuc, natAbs, _+ℤ_, _-ℤ_, _*ℤ_}
 use lib.Signed.{leZ, _≤ℤ_, _<ℤ_}
 use Rattle.places.specs.Places.{square, beyond, locate, isInside, isOutside, sideHolds}
-use Rattle.places.specs.Statements.{RangedPoint, SoundShape, AcceptedShape, Within, SurelyInside, SurelyOutside, InErrorCircle, scaled, WithinAt, BeyondAt, EveryPoint, SomePoint}
+use Rattle.places.specs.Statements.{RangedPoint, SoundShape, AcceptedShape, Within, SurelyInside, SurelyOutside, InErrorCircle, scaled, WithinAt, BeyondAt, OnSide, EveryPoint, SomePoint}
 use Rattle.places.proofs.Integers.{size-none, size-swapped}
 use Rattle.places.proofs.Squares.{root-most, unscale-squares}
 use Rattle.places.proofs.Roots.{Outward, outward}
@@ -26,6 +26,7 @@ use Rattle.places.specs.declared.Position.{Position}
 use Rattle.places.specs.declared.Position.the-variants.{Unknown, Known}
 use Rattle.places.specs.declared.Shape.{Shape}
 use Rattle.places.specs.declared.Shape.the-variants.{Circle, Box}
+use Rattle.places.specs.declared.Side.{Side}
 use Rattle.places.specs.declared.Side.the-variants as side
 use Rattle.places.specs.declared.Outcome.{Outcome}
 use Rattle.places.specs.declared.Outcome.the-variants.{Inside, Outside, Unsure, Neither}
@@ -300,3 +301,8 @@ pub outside-agrees : (shape : Shape) (position : Position) →
 outside-agrees shape =
     known-point (side.Outside shape) (λ point. (AcceptedShape shape × RangedPoint point) × EveryPoint point (BeyondAt shape))
     (λ point. Iff·trans (outside-located shape (Known point)) (known-means shape point Outside (EveryPoint point (BeyondAt shape)) (some-outcome isOutside Outside refl refl) (outside-every-point shape point)))
+
+-- A position on a side is a known point, and every point of its error circle is on that side.
+pub side-agrees : (which : Side) (position : Position) → sideHolds which position ≡ true → (point : Point) × (position ≡ Known point) × EveryPoint point (OnSide which)
+side-agrees (side.Inside shape) position h = let there = inside-agrees shape position .0 h in (there .0, there .1, there .2 .1)
+side-agrees (side.Outside shape) position h = let there = outside-agrees shape position .0 h in (there .0, there .1, there .2 .1)

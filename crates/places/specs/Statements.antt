@@ -7,6 +7,8 @@ use lib.Signed.{_≤ℤ_, _<ℤ_}
 use Rattle.places.specs.declared.Point.{Point}
 use Rattle.places.specs.declared.Shape.{Shape}
 use Rattle.places.specs.declared.Shape.the-variants.{Circle, Box}
+use Rattle.places.specs.declared.Side.{Side}
+use Rattle.places.specs.declared.Side.the-variants as side
 
 -- "whole metres on the farm grid, -1,000,000 to 1,000,000"
 abbrev pub Coordinate : ℤ → Type 0
@@ -74,6 +76,11 @@ WithinAt shape k x′ y′ = Within (scaled k shape) x′ y′
 
 abbrev pub BeyondAt : Shape → ℕ → ℤ → ℤ → Type 0
 BeyondAt shape k x′ y′ = Within (scaled k shape) x′ y′ → ⊥
+
+-- the point is on the side of an `at` rule
+abbrev pub OnSide : Side → ℕ → ℤ → ℤ → Type 0
+OnSide (side.Inside shape) = WithinAt shape
+OnSide (side.Outside shape) = BeyondAt shape
 
 -- of every point of the error circle
 abbrev pub EveryPoint : Point → (ℕ → ℤ → ℤ → Type 0) → Type 0
