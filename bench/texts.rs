@@ -8,8 +8,8 @@ mod checksum;
 mod gate;
 
 use gate::{
-    has, on_grid, Position, Rule, Session, Shape, State, Step, Term, Week, ACCESS, ACTIVATE, ASSIGN, CLOCK, CLOSE, DEACTIVATE, FINISH, GRANT, LAST_TIME, LOST,
-    MOVE, OPEN, TAKE, WITHDRAW,
+    has, on_grid, Position, Rule, Session, Shape, State, Step, Term, Week, ACCESS, ACTIVATE, ASSIGN, CLOCK, CLOSE, DEACTIVATE, FINISH, GRANT,
+    LAST_TIME, LOST, MOVE, OPEN, TAKE, WITHDRAW,
 };
 use std::hint::black_box;
 use std::io::Read;

@@ -175,7 +175,7 @@ _Static_assert(sizeof(struct pitch_gate_report) == 32, "the library fills four n
 
 /* No accepted text is longer. */
 #define PITCH_GATE_RULES_MOST 8980   /* a rule list: 128 boxes */
-#define PITCH_GATE_STATE_MOST 997981 /* a saved state: every role assigned or lent, 32 of them lent, the longest times, users and positions */
+#define PITCH_GATE_STATE_MOST 997981 /* a saved state: every role assigned or lent, 32 of them lent, the longest times, users, positions and errors */
 
 /* Spaces that are always long enough; for a saved state PITCH_GATE_STATE_MOST, for a rule list PITCH_GATE_RULES_MOST. */
 #define PITCH_GATE_OUTPUT_MOST 131072 /* the output of pitch_gate_respond, the answers of pitch_gate_run_steps */
