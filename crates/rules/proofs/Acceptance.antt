@@ -9,7 +9,9 @@ use native.Mathlib.Omega.{arith}
 use borrow.Author.Tests.{eqb-true, eq-eqb, not-false}
 use lib.Dec.{leb, ltb, eqb}
 use lib.ListN.{length, getD}
+use Rattle.sets.specs.Sets.{all}
 use Rattle.sets.proofs.Booleans.{both-true}
+use Rattle.sets.proofs.Bounded.{all-of, of-all}
 use Rattle.calendar.specs.Terms.{termInRange}
 use Rattle.calendar.proofs.Meaning.{le-means, lt-means, both-mean}
 use Rattle.calendar.proofs.TermMeaning.{term-range-means, term-sound-means}
@@ -18,10 +20,13 @@ use Rattle.places.specs.Statements.{RangedShape}
 use Rattle.places.specs.declared.Shape.{Shape}
 use Rattle.places.specs.declared.Side.the-variants as side
 use Rattle.places.proofs.Meaning.{shape-range-means, shape-sound-means}
-use Rattle.rules.specs.Acceptance.{isRole, ruleInRange, ruleDistinct, ruleSound, ruleAccepted, every, rulesOf, listAccepted}
-use Rattle.rules.specs.Statements.{RangedRule, NamesTwice, SoundRule, AcceptedRule}
+use Rattle.rules.specs.Acceptance.{isRole, ruleInRange, ruleDistinct, ruleSound, ruleAccepted, rightAt, rightAccepted, every, rulesOf, listAccepted}
+use Rattle.rules.specs.Statements.{RangedRule, NamesTwice, SoundRule, AcceptedRule, AcceptedRight}
 use Rattle.rules.specs.declared.families.Rule.{Rule}
 use Rattle.rules.specs.declared.families.Rule.the-variants.{Prerequisite, MaxUsers, MaxRoles, MaxPermissions, MaxActive, StaticSeparation, DynamicSeparation, Dependency, TimeContext, LocationContext, HistorySeparation, BindingOfDuty}
+use Rattle.rules.specs.declared.rights.Right.{Right}
+use Rattle.rules.specs.declared.rights.Right.the-variants.{Unstated, Permission}
+use Rattle.rules.specs.declared.rights.RightSlot.{RightSlot}
 use Rattle.rules.specs.declared.lists.Slot.{Slot}
 use Rattle.rules.specs.declared.lists.RuleList.{RuleList}
 use Rattle.rules.proofs.Every.{everyFirst, every-at}
@@ -126,14 +131,27 @@ each-accepted (slot ∷ slots) (suc n) h =
     (rule-accepted-means (slot .rule) .1 (h 0 slot (omega arith) (omega arith)))
     (each-accepted slots n (λ i other below within. h (suc i) other (omega arith) (omega arith)))
 
--- 40 lets a rule list pass exactly where it has at most 128 rules and 11, 13 and 14 refuse none of them: rule i + 1 is that of slot i, and
--- `other` is never taken.
+right-accepted-means : (right : Right) → (rightAccepted right ≡ true) ↔ AcceptedRight right
+right-accepted-means Unstated = (λ h. tt, λ h. refl)
+right-accepted-means (Permission p) = lt-means p 32
+
+each-right : (rights : List RightSlot) → (all 6 (λ kind. rightAccepted (rightAt rights kind)) ≡ true) ↔ ((kind : ℕ) → kind < 6 → AcceptedRight (rightAt rights kind))
+each-right rights = (
+  λ h kind low. right-accepted-means (rightAt rights kind) .0 (of-all 6 (λ k. rightAccepted (rightAt rights k)) h kind low),
+  λ h. all-of 6 (λ k. rightAccepted (rightAt rights k)) (λ kind low. right-accepted-means (rightAt rights kind) .1 (h kind low)),
+)
+
+-- 40 lets a rule list pass exactly where it has at most 128 rules, 11, 13 and 14 refuse none of them, and each right's permission is in its
+-- range: rule i + 1 is that of slot i, and `other` is never taken.
 pub list-accepted-means : (list : RuleList) →
     (listAccepted list ≡ true) ↔
-    ((list .length ≤ 128) × ((i : ℕ) (other : Slot) → i < list .length → i < length (list .slots) → AcceptedRule (getD (list .slots) i other .rule)))
+    ((list .length ≤ 128)
+    × (((i : ℕ) (other : Slot) → i < list .length → i < length (list .slots) → AcceptedRule (getD (list .slots) i other .rule))
+    × ((kind : ℕ) → kind < 6 → AcceptedRight (rightAt (list .rights) kind))))
 unfolding listAccepted
 list-accepted-means list =
-    both-mean (leb (list .length) 128) (every ruleAccepted (rulesOf list)) (le-means (list .length) 128) (
+    both-mean (leb (list .length) 128) (every ruleAccepted (rulesOf list) && all 6 (λ kind. rightAccepted (rightAt (list .rights) kind))) (le-means (list .length) 128)
+    (both-mean (every ruleAccepted (rulesOf list)) (all 6 (λ kind. rightAccepted (rightAt (list .rights) kind))) (
       λ h i other below within. rule-accepted-means (getD (list .slots) i other .rule) .0 (every-at ruleAccepted (list .slots) (list .length) i other below within h),
       each-accepted (list .slots) (list .length),
-    )
+    ) (each-right (list .rights)))

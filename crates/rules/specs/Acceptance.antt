@@ -4,12 +4,16 @@
 use mathlib.Core.Bool.{Bool, true, not, _&&_}
 use mathlib.Core.List.{List, [], _∷_, map}
 use Prim.Native.Nat.{ℕ}
-use lib.ListN.{take}
+use lib.ListN.{take, getD}
 use lib.Dec.{eqb, leb, ltb}
+use Rattle.sets.specs.Sets.{all}
 use Rattle.calendar.specs.Terms.{termInRange, termSound}
 use Rattle.places.specs.Places.{shapeInRange, shapeSound, shapeOf}
 use Rattle.rules.specs.declared.families.Rule.{Rule}
 use Rattle.rules.specs.declared.families.Rule.the-variants.{Prerequisite, MaxUsers, MaxRoles, MaxPermissions, MaxActive, StaticSeparation, DynamicSeparation, Dependency, TimeContext, LocationContext, HistorySeparation, BindingOfDuty}
+use Rattle.rules.specs.declared.rights.Right.{Right}
+use Rattle.rules.specs.declared.rights.Right.the-variants.{Unstated, Permission}
+use Rattle.rules.specs.declared.rights.RightSlot.{RightSlot}
 use Rattle.rules.specs.declared.lists.Slot.{Slot}
 use Rattle.rules.specs.declared.lists.RuleList.{RuleList}
 
@@ -70,6 +74,20 @@ ruleSound (BindingOfDuty p q) = true
 abbrev pub ruleAccepted : Rule → Bool
 ruleAccepted rule = ruleInRange rule && (ruleDistinct rule && ruleSound rule)
 
+-- ---- a right
+
+abbrev pub unstated : RightSlot
+unstated = record { right = Unstated }
+
+-- the right of a kind, counted from 0. 2026-05: "assign, withdraw, grant, take, lend and recall"; "one line a kind in that order"
+abbrev pub rightAt : List RightSlot → ℕ → Right
+rightAt rights kind = getD rights kind unstated .right
+
+-- a permission past 31 is out of its range
+abbrev pub rightAccepted : Right → Bool
+rightAccepted Unstated = true
+rightAccepted (Permission p) = isPermission p
+
 -- ---- a rule list
 
 -- a test passes at each rule
@@ -84,6 +102,7 @@ ruleOf slot = slot .rule
 abbrev pub rulesOf : RuleList → List Rule
 rulesOf list = map ruleOf (take (list .length) (list .slots))
 
--- "handed-in .. rule: field outside its range, .. over 128 rules, or a rule that 13 or 14 refuses" is 40
+-- "handed-in .. rule: field outside its range, .. over 128 rules, or a rule that 13 or 14 refuses" is 40, and so is a right out of its range
 unfoldable pub listAccepted : RuleList → Bool
-listAccepted list = leb (list .length) 128 && every ruleAccepted (rulesOf list)
+listAccepted list =
+    leb (list .length) 128 && (every ruleAccepted (rulesOf list) && all 6 (λ kind. rightAccepted (rightAt (list .rights) kind)))

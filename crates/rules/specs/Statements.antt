@@ -6,6 +6,8 @@ use mathlib.Core.Path.{_≡_}
 use Rattle.calendar.specs.Statements.{RangedTerm, SoundTerm}
 use Rattle.places.specs.Statements.{RangedShape, SoundShape}
 use Rattle.places.specs.declared.Side.the-variants as side
+use Rattle.rules.specs.declared.rights.Right.{Right}
+use Rattle.rules.specs.declared.rights.Right.the-variants.{Unstated, Permission}
 use Rattle.rules.specs.declared.families.Rule.{Rule}
 use Rattle.rules.specs.declared.families.Rule.the-variants.{Prerequisite, MaxUsers, MaxRoles, MaxPermissions, MaxActive, StaticSeparation, DynamicSeparation, Dependency, TimeContext, LocationContext, HistorySeparation, BindingOfDuty}
 
@@ -61,3 +63,8 @@ pub record AcceptedRule (rule : Rule) : Type 0 where
   pub ranged : RangedRule rule
   pub distinct : NamesTwice rule → ⊥
   pub sound : SoundRule rule
+
+-- 2026-05, of a right: "permissions p 0 to 31"
+abbrev pub AcceptedRight : Right → Type 0
+AcceptedRight Unstated = Unit {0}
+AcceptedRight (Permission p) = p < 32

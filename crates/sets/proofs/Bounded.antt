@@ -3,10 +3,11 @@
 use mathlib.Core.Path.{_≡_, refl, sym, ap, ap₂, _∙_}
 use mathlib.Core.Bool.{Bool, true, false, _&&_, _||_, false≢true}
 use mathlib.Core.Logic.{_↔_, ⊎-elim}
-use Prim.Native.Nat.{ℕ, zero, suc, _<_}
+use Prim.Native.Nat.{ℕ, zero, suc, _+_, _<_}
+use native.Mathlib.Numerals.{add-one}
 use native.Mathlib.Nat.{le-refl, le-trans, le-suc, le-of-suc-le-suc, not-suc-le-zero, eq-or-lt-of-le}
 use Rattle.sets.specs.Sets.{all, any}
-use Rattle.sets.proofs.Booleans.{clash, both-true, left-true, right-true, of-and-false, left-or, right-or}
+use Rattle.sets.proofs.Booleans.{clash, both-true, left-true, right-true, of-and-false, left-or, right-or, not-so}
 
 pub all-of : (k : ℕ) (p : ℕ → Bool) → ((i : ℕ) → i < k → p i ≡ true) → all k p ≡ true
 unfolding all
@@ -63,3 +64,18 @@ pub any-same : (k : ℕ) (p q : ℕ → Bool) → ((i : ℕ) → i < k → p i �
 unfolding any
 any-same zero p q e = refl
 any-same (suc k) p q e = ap₂ _||_ (any-same k p q (λ i l. e i (le-trans l (le-suc k)))) (e k (le-refl (suc k)))
+
+-- ---- a loop over the numbers below a bound
+
+-- that tests each: one more passes, or the first that fails ends it
+pub all-next : (k : ℕ) (p : ℕ → Bool) → all k p ≡ true → p k ≡ true → all (k + 1) p ≡ true
+unfolding all
+all-next k p before here = rw add-one (both-true (all k p) (p k) before here)
+
+pub all-stop : (k : ℕ) (p : ℕ → Bool) (i : ℕ) → i < k → p i ≡ false → all k p ≡ false
+all-stop k p i below fails = not-so (all k p) (λ h. clash (of-all k p h i below) fails)
+
+-- that looks for one that passes
+pub any-next : (k : ℕ) (p : ℕ → Bool) → any k p ≡ false → p k ≡ false → any (k + 1) p ≡ false
+unfolding any
+any-next k p e h = ap (λ (n : ℕ). any n p) (add-one k) ∙ ap₂ _||_ e h

@@ -5,6 +5,8 @@ use mathlib.Core.Bool.{Bool, true, false, cond, _&&_}
 use lib.Dec.{eqb, ltb, leb}
 use lib.IntN.{ℤ, pos}
 use Rattle.places.specs.Places.{onGrid}
+use Rattle.steps.specs.declared.acting.Acting.{Acting}
+use Rattle.steps.specs.declared.acting.Acting.the-variants.{Nobody, InSession}
 use Rattle.steps.specs.declared.actions.Action.{Action}
 use Rattle.steps.specs.declared.actions.Action.the-variants.{Malformed, Assign, Withdraw, Grant, Take, Open, Activate, Deactivate, Access, Finish, Close, Move, Lost, Clock, Lend, Recall}
 use Rattle.steps.specs.declared.steps.Step.{Step}
@@ -24,8 +26,8 @@ moveOf i x y e = ranged (ltb i 32 && ((onGrid x && onGrid y) && leb e 1000)) (Mo
 
 -- "Users u 0 to 63, roles r 0 to 31, permissions p 0 to 31, sessions s 0 to 31, objects o 0 to 31"; kinds 0 to 14 in the table's
 -- order; numbers that a kind does not use are not looked at
-unfoldable pub actionOf : Step → Action
-actionOf step =
+unfoldable pub ofKind : Step → Action
+ofKind step =
     cond (eqb (step .kind) 0) (ranged (ltb (step .first) 64 && ltb (step .second) 32) (Assign (step .first) (step .second)))
     (cond (eqb (step .kind) 1) (ranged (ltb (step .first) 64 && ltb (step .second) 32) (Withdraw (step .first) (step .second)))
     (cond (eqb (step .kind) 2) (ranged (ltb (step .first) 32 && ltb (step .second) 32) (Grant (step .first) (step .second)))
@@ -42,13 +44,58 @@ actionOf step =
     (cond (eqb (step .kind) 13) (ranged (ltb (step .first) 64 && (ltb (step .second) 64 && (ltb (step .third) 32 && isTime (step .fourth)))) (Lend (step .first) (step .second) (step .third) (step .fourth)))
     (cond (eqb (step .kind) 14) (ranged (ltb (step .first) 64 && (ltb (step .second) 64 && ltb (step .third) 32)) (Recall (step .first) (step .second) (step .third))) Malformed))))))))))))))
 
--- ---- a step by its kind's number: one that has no coordinates, and a move
+-- 2026-05: "assign, withdraw, grant, take, lend and recall": the place of a kind among them, counted from 0; 6 of any other
+abbrev pub rightKind : Action → ℕ
+rightKind Malformed = 6
+rightKind (Assign u r) = 0
+rightKind (Withdraw u r) = 1
+rightKind (Grant r p) = 2
+rightKind (Take r p) = 3
+rightKind (Open i u) = 6
+rightKind (Activate i r) = 6
+rightKind (Deactivate i r) = 6
+rightKind (Access i p o) = 6
+rightKind (Finish o) = 6
+rightKind (Close i) = 6
+rightKind (Move i point) = 6
+rightKind (Lost i) = 6
+rightKind (Clock t) = 6
+rightKind (Lend u v r t) = 4
+rightKind (Recall u v r) = 5
+
+abbrev pub isAdministrative : Action → Bool
+isAdministrative action = ltb (rightKind action) 6
+
+-- 2026-05: "`by` before any other step .. is .. 20 handed in"; and so is a session past 31
+abbrev pub actedBy : Acting → Action → Action
+actedBy Nobody action = action
+actedBy (InSession i) action = ranged (ltb i 32 && isAdministrative action) action
+
+unfoldable pub actionOf : Step → Action
+actionOf step = actedBy (step .by) (ofKind step)
+
+-- ---- a step by its kind's number, with nobody acting: one that has no coordinates, and a move
 
 abbrev pub numbered : ℕ → ℕ → ℕ → ℕ → ℕ → Step
-numbered kind first second third fourth = record { kind = kind; first = first; second = second; third = third; fourth = fourth; x = pos 0; y = pos 0 }
+numbered kind first second third fourth =
+    record { kind = kind; first = first; second = second; third = third; fourth = fourth; x = pos 0; y = pos 0; by = Nobody }
 
 abbrev pub moved : ℕ → ℤ → ℤ → ℕ → Step
-moved session x y e = record { kind = 10; first = session; second = 0; third = 0; fourth = e; x = x; y = y }
+moved session x y e = record { kind = 10; first = session; second = 0; third = 0; fourth = e; x = x; y = y; by = Nobody }
+
+-- the same step with another acting
+abbrev pub withBy : Acting → Step → Step
+withBy by step =
+    record {
+      kind = step .kind;
+      first = step .first;
+      second = step .second;
+      third = step .third;
+      fourth = step .fourth;
+      x = step .x;
+      y = step .y;
+      by = by;
+    }
 
 -- "The last three rows (close, move and lost, clock) are events."
 abbrev pub isEvent : Action → Bool

@@ -1,12 +1,14 @@
 // A step as it is handed in, and with its numbers in range.
 ghost use mathlib.Core.Path.{_≡_};
-ghost use Rattle.steps.specs.Steps.{ranged, moveOf, actionOf};
+ghost use Rattle.steps.specs.Steps.{ranged, moveOf, ofKind, actedBy, actionOf};
+use crate::acting::Acting;
+use crate::acting::is_administrative;
 use crate::actions::Action;
 use calendar::Term;
 use places::Point;
 use places::on_grid;
 
-// Plain numbers, wide enough for any that a text can hold. Those that a kind does not use are not looked at.
+// Plain numbers, wide enough for any that a text can hold, and who acts. Numbers that a kind does not use are not looked at.
 pub struct Step {
     pub kind: u64,
     pub first: u64,
@@ -15,6 +17,7 @@ pub struct Step {
     pub fourth: u64,
     pub x: i64,
     pub y: i64,
+    pub by: Acting,
 }
 
 impl Step {
@@ -74,9 +77,17 @@ impl Step {
     // recall u v r
     pub const RECALL: u64 = 14;
 
-    // The step with its numbers in range, or malformed.
+    // The step with its numbers in range and `by` only where it can stand, or malformed.
     pub fn action(self) -> Action
         ensures { λ r. ⌜ r ≡ actionOf self ⌝ }
+    {
+        let by = self.by;
+        acted_by(by, self.of_kind())
+    }
+
+    // The same, whoever acts.
+    fn of_kind(self) -> Action
+        ensures { λ r. ⌜ r ≡ ofKind self ⌝ }
     {
         let kind = self.kind;
         let first = self.first as usize;
@@ -169,6 +180,19 @@ impl Step {
             ),
             _ => Action::Malformed,
         }
+    }
+}
+
+// `by` stands before an administrative step alone, with a session in range.
+fn acted_by(by: Acting, action: Action) -> Action
+    ensures { λ r. ⌜ r ≡ actedBy by action ⌝ }
+{
+    match by {
+        Acting::Nobody => action,
+        Acting::InSession(session) => ranged(
+            (session < Step::SESSIONS as u64) & is_administrative(action),
+            action,
+        ),
     }
 }
 
