@@ -19,10 +19,10 @@ use Rattle.selection.specs.Selection.{selects, selectedNumber}
 use Rattle.steps.specs.declared.actions.Action.{Action}
 use Rattle.enforcement.specs.States.{fresh, ruleHolds, stateAccepted}
 use Rattle.steps.specs.Steps.{actionOf, isEvent}
-use Rattle.enforcement.specs.Steps.{Checked, passes, refuses, check, target, withActive}
+use Rattle.enforcement.specs.Steps.{Checked, passes, refuses, check, checkStep, target, withActive}
 use Rattle.enforcement.specs.Decisions.{Largest, granted, refused, Verdict}
 use Rattle.enforcement.specs.Plain.{obeys, lowestBroken, verdict, Plain, refusing, breaking, taking, ending, PlainRun, done, next, plainRequest, plainPassed, plainChecked, plainStep, plainRun}
-use Rattle.enforcement.specs.Gate.{testsSelected, grantedNext, requestNext, passedNext, checkedNext, decide, stepOf, runOf, compared, comparedRun}
+use Rattle.enforcement.specs.Gate.{testsSelected, grantedNext, requestNext, passedNext, checkedNext, decideStep, stepOf, runOf, compared, comparedRun}
 use Rattle.enforcement.specs.Rounds.{remaining}
 use Rattle.enforcement.specs.Narrow as narrow
 use Rattle.enforcement.specs.Reached.{Typed, Accepted}
@@ -31,6 +31,7 @@ use Rattle.enforcement.specs.declared.states.State.{State}
 use Rattle.steps.specs.declared.steps.Step.{Step}
 use Rattle.enforcement.specs.declared.states.Next.{Next}
 use Rattle.enforcement.proofs.EndedPairs.{none-ended}
+use Rattle.enforcement.proofs.Checks.{step-passes}
 use Rattle.enforcement.proofs.Ranges.{Ranged, action-ranged}
 use Rattle.enforcement.proofs.Frame.{frame, frame-part}
 use Rattle.enforcement.proofs.Ending.{largest-unique, remaining-largest}
@@ -108,78 +109,84 @@ module _ (rules : List Rule) (s : State) (accepted : Accepted s) (obeyed : obeys
           largest = λ m part h. kept .largest m part (to-selected m h);
         }
 
-  by-lowest : isEvent action ≡ false → (low : Lowest) → lowestBroken rules (target s action) ≡ low → (n : ℕ) → Plain rules s action (compared s (requestNext n s (target s action) low))
+module _ (list : RuleList) (s : State) (accepted : Accepted s) (obeyed : obeys (rulesOf list) s ≡ true) (step : Step) where
+  by-lowest : checkStep list s step ≡ passes → isEvent (actionOf step) ≡ false → (low : Lowest) → lowestBroken (rulesOf list) (target s (actionOf step)) ≡ low → (n : ℕ) → Plain list s step (compared s (requestNext n s (target s (actionOf step)) low))
   unfolding requestNext
-  by-lowest event Unbroken e n = taking pass event e
-  by-lowest event (BrokenAt rule) e n = subst (Plain rules s action) (refusal-verdict s 30 rule) (breaking rule pass event e)
+  by-lowest pass event Unbroken e n = taking pass event e
+  by-lowest pass event (BrokenAt rule) e n = subst (Plain list s step) (refusal-verdict s 30 rule) (breaking rule pass event e)
 
-  by-event : (event : Bool) → isEvent action ≡ event → Plain rules s action (compared s (passedNext event rules s action))
+  by-event : checkStep list s step ≡ passes → (event : Bool) → isEvent (actionOf step) ≡ event → Plain list s step (compared s (passedNext event (rulesOf list) s (actionOf step)))
   unfolding passedNext
-  by-event true e = ending (remaining (selects action) rules (target s action)) pass e (remaining-obeys e)
-  by-event false e = by-lowest e (lowest (testsSelected (selects action) (target s action)) 1 rules) (sym same-lowest) _
+  by-event pass true e =
+      ending (remaining (selects (actionOf step)) (rulesOf list) (target s (actionOf step))) pass e
+      (remaining-obeys (rulesOf list) s accepted obeyed (actionOf step) (action-ranged step) (step-passes list s step pass) e)
+  by-event pass false e =
+      by-lowest pass e (lowest (testsSelected (selects (actionOf step)) (target s (actionOf step))) 1 (rulesOf list))
+      (sym (same-lowest (rulesOf list) s accepted obeyed (actionOf step) (action-ranged step) (step-passes list s step pass))) _
 
-module _ (rules : List Rule) (s : State) (accepted : Accepted s) (obeyed : obeys rules s ≡ true) (action : Action) (ranged : Ranged action) where
-  by-check : (checked : Checked) → check s action ≡ checked → Plain rules s action (compared s (checkedNext checked rules s action))
+  by-check : (checked : Checked) → checkStep list s step ≡ checked → Plain list s step (compared s (checkedNext checked (rulesOf list) s (actionOf step)))
   unfolding checkedNext
-  by-check passes e = by-event rules s accepted obeyed action ranged e (isEvent action) refl
-  by-check (refuses number) e = subst (Plain rules s action) (refusal-verdict s number 0) (refusing number e)
+  by-check passes e = by-event e (isEvent (actionOf step)) refl
+  by-check (refuses number) e = subst (Plain list s step) (refusal-verdict s number 0) (refusing number e)
 
   -- what our gate gives is what the plain gate gives
-  step-is-plain : Plain rules s action (compared s (decide rules s action))
-  unfolding decide
-  step-is-plain = by-check (check s action) refl
+  step-is-plain : Plain list s step (compared s (decideStep list s step))
+  unfolding decideStep
+  step-is-plain = by-check (checkStep list s step) refl
 
 -- ---- the plain gate gives one verdict, and its function finds it
 
-module _ (rules : List Rule) (s : State) (action : Action) where
-  plain-function : (v : Verdict) → (check s action ≡ passes → Typed (target s action)) → Plain rules s action v → plainStep rules s action ≡ v
+module _ (list : RuleList) (s : State) (step : Step) where
+  plain-function : (v : Verdict) → (checkStep list s step ≡ passes → Typed (target s (actionOf step))) → Plain list s step v → plainStep list s step ≡ v
   unfolding plainStep plainChecked plainPassed plainRequest
-  plain-function v typed (refusing number e) = ap (λ (c : Checked). plainChecked c rules s action) e
+  plain-function v typed (refusing number e) = ap (λ (c : Checked). plainChecked c (rulesOf list) s (actionOf step)) e
   plain-function v typed (breaking rule e event low) =
-      ap (λ (c : Checked). plainChecked c rules s action) e
-      ∙ ap (λ (b : Bool). plainPassed b rules s (target s action)) event
-      ∙ ap (plainRequest s (target s action)) low
+      ap (λ (c : Checked). plainChecked c (rulesOf list) s (actionOf step)) e
+      ∙ ap (λ (b : Bool). plainPassed b (rulesOf list) s (target s (actionOf step))) event
+      ∙ ap (plainRequest s (target s (actionOf step))) low
   plain-function v typed (taking e event low) =
-      ap (λ (c : Checked). plainChecked c rules s action) e
-      ∙ ap (λ (b : Bool). plainPassed b rules s (target s action)) event
-      ∙ ap (plainRequest s (target s action)) low
+      ap (λ (c : Checked). plainChecked c (rulesOf list) s (actionOf step)) e
+      ∙ ap (λ (b : Bool). plainPassed b (rulesOf list) s (target s (actionOf step))) event
+      ∙ ap (plainRequest s (target s (actionOf step))) low
   plain-function v typed (ending l e event largest) =
-      ap (λ (c : Checked). plainChecked c rules s action) e
-      ∙ ap (λ (b : Bool). plainPassed b rules s (target s action)) event
-      ∙ ap (λ (m : List ℕ). verdict s granted 0 (withActive (target s action) m)) (largest-found (obeys rules) (target s action) l (typed e) largest)
+      ap (λ (c : Checked). plainChecked c (rulesOf list) s (actionOf step)) e
+      ∙ ap (λ (b : Bool). plainPassed b (rulesOf list) s (target s (actionOf step))) event
+      ∙ ap (λ (m : List ℕ). verdict s granted 0 (withActive (target s (actionOf step)) m)) (largest-found (obeys (rulesOf list)) (target s (actionOf step)) l (typed e) largest)
 
 -- ---- what the plain gate leaves is not refused by 40 and obeys the rules
 
-plain-keeps : (rules : List Rule) (s : State) (action : Action) (v : Verdict) → Accepted s → Ranged action → obeys rules s ≡ true → Plain rules s action v → Accepted (v .state) × (obeys rules (v .state) ≡ true)
-plain-keeps rules s action v accepted ranged obeyed (refusing number e) = (accepted, obeyed)
-plain-keeps rules s action v accepted ranged obeyed (breaking rule e event low) = (accepted, obeyed)
-plain-keeps rules s action v accepted ranged obeyed (taking e event low) =
-    (accepted-target action s accepted ranged e, lowest-none (λ rule. ruleHolds rule (target s action)) 1 rules low)
-plain-keeps rules s action v accepted ranged obeyed (ending l e event largest) =
-    (accepted-part (target s action) l (accepted-target action s accepted ranged e) (largest .isPart), largest .holding)
+-- the target of a step that no check refuses is a state of the type, in range
+target-accepted : (list : RuleList) (s : State) (step : Step) → Accepted s → checkStep list s step ≡ passes → Accepted (target s (actionOf step))
+target-accepted list s step accepted pass = accepted-target (actionOf step) s accepted (action-ranged step) (step-passes list s step pass)
+
+plain-keeps : (list : RuleList) (s : State) (step : Step) (v : Verdict) → Accepted s → obeys (rulesOf list) s ≡ true → Plain list s step v → Accepted (v .state) × (obeys (rulesOf list) (v .state) ≡ true)
+plain-keeps list s step v accepted obeyed (refusing number e) = (accepted, obeyed)
+plain-keeps list s step v accepted obeyed (breaking rule e event low) = (accepted, obeyed)
+plain-keeps list s step v accepted obeyed (taking e event low) =
+    (target-accepted list s step accepted e, lowest-none (λ rule. ruleHolds rule (target s (actionOf step))) 1 (rulesOf list) low)
+plain-keeps list s step v accepted obeyed (ending l e event largest) =
+    (accepted-part (target s (actionOf step)) l (target-accepted list s step accepted e) (largest .isPart), largest .holding)
 
 -- ---- a whole list of steps
 
 module _ (list : RuleList) (listed : listAccepted list ≡ true) where
   -- an accepted state is not refused by 40, so the step is decided
-  decided : (s : State) → Accepted s → (step : Step) → stepOf list s step ≡ decide (rulesOf list) s (actionOf step)
+  decided : (s : State) → Accepted s → (step : Step) → stepOf list s step ≡ decideStep list s step
   unfolding stepOf
   decided s accepted step = rw (listed, accepted .unrefused)
 
-  pub step-plain : (s : State) → Accepted s → obeys (rulesOf list) s ≡ true → (step : Step) → Plain (rulesOf list) s (actionOf step) (compared s (stepOf list s step))
-  step-plain s accepted obeyed step =
-      rw (decided s accepted step) (step-is-plain (rulesOf list) s accepted obeyed (actionOf step) (action-ranged step))
+  pub step-plain : (s : State) → Accepted s → obeys (rulesOf list) s ≡ true → (step : Step) → Plain list s step (compared s (stepOf list s step))
+  step-plain s accepted obeyed step = rw (decided s accepted step) (step-is-plain list s accepted obeyed step)
 
   pub step-keeps : (s : State) → Accepted s → obeys (rulesOf list) s ≡ true → (step : Step) → Accepted (stepOf list s step .state) × (obeys (rulesOf list) (stepOf list s step .state) ≡ true)
   step-keeps s accepted obeyed step =
-      plain-keeps (rulesOf list) s (actionOf step) (compared s (stepOf list s step)) accepted (action-ranged step) obeyed (step-plain s accepted obeyed step)
+      plain-keeps list s step (compared s (stepOf list s step)) accepted obeyed (step-plain s accepted obeyed step)
 
-  step-function : (s : State) → Accepted s → obeys (rulesOf list) s ≡ true → (step : Step) (v : Verdict) → Plain (rulesOf list) s (actionOf step) v → plainStep (rulesOf list) s (actionOf step) ≡ v
-  step-function s accepted obeyed step v =
-      plain-function (rulesOf list) s (actionOf step) v (λ pass. accepted-target (actionOf step) s accepted (action-ranged step) pass .typed)
+  step-function : (s : State) → Accepted s → obeys (rulesOf list) s ≡ true → (step : Step) (v : Verdict) → Plain list s step v → plainStep list s step ≡ v
+  step-function s accepted obeyed step v = plain-function list s step v (λ pass. target-accepted list s step accepted pass .typed)
 
   -- the relation has our run
-  run-is-plain : (steps : List Step) (s : State) → Accepted s → obeys (rulesOf list) s ≡ true → PlainRun (rulesOf list) s steps (comparedRun s (runOf list s steps))
+  run-is-plain : (steps : List Step) (s : State) → Accepted s → obeys (rulesOf list) s ≡ true → PlainRun list s steps (comparedRun s (runOf list s steps))
   unfolding runOf comparedRun
   run-is-plain [] s accepted obeyed = done
   run-is-plain (step ∷ steps) s accepted obeyed =
@@ -187,22 +194,22 @@ module _ (list : RuleList) (listed : listAccepted list ≡ true) where
       next (step-plain s accepted obeyed step) (run-is-plain steps (stepOf list s step .state) (kept .0) (kept .1))
 
   -- and so has the function
-  function-is-run : (steps : List Step) (s : State) → Accepted s → obeys (rulesOf list) s ≡ true → plainRun (rulesOf list) s steps ≡ comparedRun s (runOf list s steps)
+  function-is-run : (steps : List Step) (s : State) → Accepted s → obeys (rulesOf list) s ≡ true → plainRun list s steps ≡ comparedRun s (runOf list s steps)
   unfolding plainRun runOf comparedRun
   function-is-run [] s accepted obeyed = refl
   function-is-run (step ∷ steps) s accepted obeyed =
       let here = step-function s accepted obeyed step (compared s (stepOf list s step)) (step-plain s accepted obeyed step) in
       let kept = step-keeps s accepted obeyed step in
-      ap₂ _∷_ here (ap (λ (v : Verdict). plainRun (rulesOf list) (v .state) steps) here ∙ function-is-run steps (stepOf list s step .state) (kept .0) (kept .1))
+      ap₂ _∷_ here (ap (λ (v : Verdict). plainRun list (v .state) steps) here ∙ function-is-run steps (stepOf list s step .state) (kept .0) (kept .1))
 
   -- and the relation has no other
-  plain-is-function : (steps : List Step) (s : State) (verdicts : List Verdict) → Accepted s → obeys (rulesOf list) s ≡ true → PlainRun (rulesOf list) s steps verdicts → plainRun (rulesOf list) s steps ≡ verdicts
+  plain-is-function : (steps : List Step) (s : State) (verdicts : List Verdict) → Accepted s → obeys (rulesOf list) s ≡ true → PlainRun list s steps verdicts → plainRun list s steps ≡ verdicts
   unfolding plainRun
   plain-is-function [] s verdicts accepted obeyed done = refl
   plain-is-function (step ∷ steps) s verdicts accepted obeyed (next {v = v} {verdicts = rest} here later) =
       let same = step-function s accepted obeyed step v here in
-      let kept = plain-keeps (rulesOf list) s (actionOf step) v accepted (action-ranged step) obeyed here in
-      ap₂ _∷_ same (ap (λ (w : Verdict). plainRun (rulesOf list) (w .state) steps) same ∙ plain-is-function steps (v .state) rest (kept .0) (kept .1) later)
+      let kept = plain-keeps list s step v accepted obeyed here in
+      ap₂ _∷_ same (ap (λ (w : Verdict). plainRun list (w .state) steps) same ∙ plain-is-function steps (v .state) rest (kept .0) (kept .1) later)
 
   -- what holds of a step from every state that 40 does not refuse and that obeys the rules holds along the run
   pub along-run : (Says : State → Step → Next → Type 0) → ((s : State) → Accepted s → obeys (rulesOf list) s ≡ true → (step : Step) → Says s step (stepOf list s step)) →
@@ -221,20 +228,20 @@ all-hold-fresh rules = every-all (λ rule. ruleHolds rule fresh) fresh-obeys rul
 module _ (list : RuleList) (listed : listAccepted list ≡ true) (steps : List Step) where
   -- "over every list of steps from a fresh state, it gives at every step the same decision, lowest broken rule, ended roles and state as
   -- the plain gate, which tests every rule over the whole state"
-  pub agreement : plainRun (rulesOf list) fresh steps ≡ comparedRun fresh (runOf list fresh steps)
+  pub agreement : plainRun list fresh steps ≡ comparedRun fresh (runOf list fresh steps)
   agreement = function-is-run list listed steps fresh fresh-accepted (all-hold-fresh (rulesOf list))
 
   -- the same of the plain gate as a relation: our run is one of its runs
-  pub agreement-relation : PlainRun (rulesOf list) fresh steps (comparedRun fresh (runOf list fresh steps))
+  pub agreement-relation : PlainRun list fresh steps (comparedRun fresh (runOf list fresh steps))
   agreement-relation = run-is-plain list listed steps fresh fresh-accepted (all-hold-fresh (rulesOf list))
 
   -- and it has no other
-  pub agreement-only : (verdicts : List Verdict) → PlainRun (rulesOf list) fresh steps verdicts → verdicts ≡ comparedRun fresh (runOf list fresh steps)
+  pub agreement-only : (verdicts : List Verdict) → PlainRun list fresh steps verdicts → verdicts ≡ comparedRun fresh (runOf list fresh steps)
   agreement-only verdicts plain =
       sym (plain-is-function list listed steps fresh verdicts fresh-accepted (all-hold-fresh (rulesOf list)) plain) ∙ agreement
 
   -- and what the plain gate's function runs through is that run
-  pub function-relation : PlainRun (rulesOf list) fresh steps (plainRun (rulesOf list) fresh steps)
+  pub function-relation : PlainRun list fresh steps (plainRun list fresh steps)
   function-relation = rw agreement agreement-relation
 
   -- "All rules hold after every step."
@@ -249,31 +256,37 @@ module _ (list : RuleList) (listed : listAccepted list ≡ true) (steps : List S
 
 -- ---- any state that 40 does not refuse, also one that breaks rules
 
-module _ (rules : List Rule) (s : State) (accepted : Accepted s) (action : Action) (ranged : Ranged action) where
-  remaining-selected : check s action ≡ passes → isEvent action ≡ true → Largest (narrow.obeysSelected rules action) (target s action) (remaining (selects action) rules (target s action))
-  remaining-selected pass event = remaining-largest action event rules (target s action) (accepted-target action s accepted ranged pass .typed)
+module _ (list : RuleList) (s : State) (accepted : Accepted s) (step : Step) where
+  abbrev rules : List Rule
+  rules = rulesOf list
 
-  narrow-by-lowest : check s action ≡ passes → isEvent action ≡ false → (low : Lowest) → narrow.lowestSelected rules action (target s action) ≡ low → narrow.Narrow rules s action (requestNext (selectedNumber (selects action) rules) s (target s action) low)
+  abbrev action : Action
+  action = actionOf step
+
+  remaining-selected : checkStep list s step ≡ passes → isEvent action ≡ true → Largest (narrow.obeysSelected rules action) (target s action) (remaining (selects action) rules (target s action))
+  remaining-selected pass event = remaining-largest action event rules (target s action) (target-accepted list s step accepted pass .typed)
+
+  narrow-by-lowest : checkStep list s step ≡ passes → isEvent action ≡ false → (low : Lowest) → narrow.lowestSelected rules action (target s action) ≡ low → narrow.Narrow list s step (requestNext (selectedNumber (selects action) rules) s (target s action) low)
   unfolding requestNext
   narrow-by-lowest pass event Unbroken e = narrow.taking pass event e
   narrow-by-lowest pass event (BrokenAt rule) e = narrow.breaking rule pass event e
 
-  narrow-by-event : check s action ≡ passes → (event : Bool) → isEvent action ≡ event → narrow.Narrow rules s action (passedNext event rules s action)
+  narrow-by-event : checkStep list s step ≡ passes → (event : Bool) → isEvent action ≡ event → narrow.Narrow list s step (passedNext event rules s action)
   unfolding passedNext
   narrow-by-event pass true e = narrow.ending (remaining (selects action) rules (target s action)) pass e (remaining-selected pass e)
   narrow-by-event pass false e = narrow-by-lowest pass e (narrow.lowestSelected rules action (target s action)) refl
 
-  narrow-by-check : (checked : Checked) → check s action ≡ checked → narrow.Narrow rules s action (checkedNext checked rules s action)
+  narrow-by-check : (checked : Checked) → checkStep list s step ≡ checked → narrow.Narrow list s step (checkedNext checked rules s action)
   unfolding checkedNext
   narrow-by-check passes e = narrow-by-event e (isEvent action) refl
   narrow-by-check (refuses number) e = narrow.refusing number e
 
-  pub step-narrow : narrow.Narrow rules s action (decide rules s action)
-  unfolding decide
-  step-narrow = narrow-by-check (check s action) refl
+  pub step-narrow : narrow.Narrow list s step (decideStep list s step)
+  unfolding decideStep
+  step-narrow = narrow-by-check (checkStep list s step) refl
 
-  narrow-decided : (given : Next) → narrow.Narrow rules s action given → given ≡ decide rules s action
-  unfolding decide checkedNext passedNext requestNext
+  narrow-decided : (given : Next) → narrow.Narrow list s step given → given ≡ decideStep list s step
+  unfolding decideStep checkedNext passedNext requestNext
   narrow-decided given (narrow.refusing number e) = sym (ap (λ (c : Checked). checkedNext c rules s action) e)
   narrow-decided given (narrow.breaking rule e event low) =
       sym (ap (λ (c : Checked). checkedNext c rules s action) e
@@ -288,17 +301,17 @@ module _ (rules : List Rule) (s : State) (accepted : Accepted s) (action : Actio
       ∙ sym (ap (λ (c : Checked). checkedNext c rules s action) e ∙ ap (λ (b : Bool). passedNext b rules s action) event)
 
 -- from a state that 40 does not refuse, a step gives what document 01 says with the selected rules alone, and nothing else
-pub selected-only : (list : RuleList) → listAccepted list ≡ true → (s : State) → Accepted s → (step : Step) (given : Next) → (given ≡ stepOf list s step) ↔ narrow.Narrow (rulesOf list) s (actionOf step) given
+pub selected-only : (list : RuleList) → listAccepted list ≡ true → (s : State) → Accepted s → (step : Step) (given : Next) → (given ≡ stepOf list s step) ↔ narrow.Narrow list s step given
 selected-only list listed s accepted step given = (
-  λ e. subst (narrow.Narrow (rulesOf list) s (actionOf step)) (sym (e ∙ decided list listed s accepted step)) (step-narrow (rulesOf list) s accepted (actionOf step) (action-ranged step)),
-  λ h. narrow-decided (rulesOf list) s accepted (actionOf step) (action-ranged step) given h ∙ sym (decided list listed s accepted step),
+  λ e. subst (narrow.Narrow list s step) (sym (e ∙ decided list listed s accepted step)) (step-narrow list s accepted step),
+  λ h. narrow-decided list s accepted step given h ∙ sym (decided list listed s accepted step),
 )
 
 -- the same of the step alone, where the list is accepted and 40 does not refuse the state
 module _ (list : RuleList) (s : State) (step : Step) (typed : Typed s) (listed : listAccepted list ≡ true) (unrefused : stateAccepted s ≡ true) where
-  pub narrow-step : narrow.Narrow (rulesOf list) s (actionOf step) (stepOf list s step)
+  pub narrow-step : narrow.Narrow list s step (stepOf list s step)
   narrow-step = selected-only list listed s (record { typed = typed; unrefused = unrefused }) step (stepOf list s step) .0 refl
 
   -- and document 01 allows nothing else
-  pub narrow-only : (given : Next) → narrow.Narrow (rulesOf list) s (actionOf step) given → given ≡ stepOf list s step
+  pub narrow-only : (given : Next) → narrow.Narrow list s step given → given ≡ stepOf list s step
   narrow-only given = selected-only list listed s (record { typed = typed; unrefused = unrefused }) step given .1

@@ -23,10 +23,11 @@ use Rattle.selection.specs.Selection.{selects, selectedNumber}
 use Rattle.steps.specs.declared.actions.Action.{Action}
 use Rattle.steps.specs.declared.actions.Action.the-variants.{Malformed, Assign, Withdraw, Grant, Take, Open, Activate, Deactivate, Access, Finish, Close, Move, Lost, Clock, Lend, Recall}
 use Rattle.loans.specs.Loans.{isNamed, someLoan}
+use Rattle.rights.specs.Rights.{actsClosed}
 use Rattle.enforcement.specs.States.{holdsRole, assignedRole, lentOutRole, loansOf, carries, isOpen, userOf, activeRole, stateAccepted}
-use Rattle.steps.specs.Steps.{isEvent, actionOf}
-use Rattle.enforcement.specs.Steps.{Checked, passes, refuses, refuseIf, check, target}
-use Rattle.enforcement.specs.Gate.{testsSelected, requestNext, passedNext, checkedNext, decide, stepOf}
+use Rattle.steps.specs.Steps.{isEvent, isAdministrative, actionOf}
+use Rattle.enforcement.specs.Steps.{Checked, passes, refuses, refuseIf, check, rightLacking, checkBy, checkStep, target}
+use Rattle.enforcement.specs.Gate.{testsSelected, requestNext, passedNext, checkedNext, decideStep, stepOf}
 use Rattle.enforcement.specs.Rounds.{remaining}
 use Rattle.steps.specs.Answers.{wordOf, answerOf, Fits}
 use Rattle.enforcement.specs.declared.states.State.{State}
@@ -66,6 +67,16 @@ check-numbered s (Lend u v r t) =
     (refuse-numbered (leb t (s .time)) 52 _ (omega arith, omega arith, λ e. omega arith)
     (refuse-numbered (leb 32 (s .loans .count)) 51 passes (omega arith, omega arith, λ e. omega arith) tt)))
 check-numbered s (Recall u v r) = refuse-numbered (not (someLoan (isNamed u v r) (loansOf s))) 25 passes (omega arith, omega arith, λ e. omega arith) tt
+
+step-numbered : (list : RuleList) (s : State) (step : Step) → Numbered (checkStep list s step)
+unfolding checkBy
+step-numbered list s step = go (isAdministrative (actionOf step)) (actsClosed (s .sessions) (step .by)) (rightLacking (list .rights) s (step .by) (actionOf step))
+  where
+    go : (administrative closed lacking : Bool) → Numbered (cond administrative (refuseIf closed 53 (refuseIf lacking 54 (check s (actionOf step)))) (check s (actionOf step)))
+    go true closed lacking =
+        refuse-numbered closed 53 _ (omega arith, omega arith, λ e. omega arith)
+        (refuse-numbered lacking 54 _ (omega arith, omega arith, λ e. omega arith) (check-numbered s (actionOf step)))
+    go false closed lacking = check-numbered s (actionOf step)
 
 -- ---- the numbers of rules and pairs
 
@@ -128,19 +139,16 @@ module _ (rules : List Rule) (s : State) (few : length rules ≤ 128) (sessions 
       (lowest-small (testsSelected (selects action) (target s action)) 1 256 rules (omega arith))
   passed-fits action true = granted-fits (selects action) (remaining (selects action) rules (target s action))
 
-  decided-fits : (action : Action) → Fits (decide rules s action .answer)
-  unfolding decide checkedNext
-  decided-fits action = go (check s action) (check-numbered s action)
-    where
-      go : (c : Checked) → Numbered c → Fits (checkedNext c rules s action .answer)
-      go passes numbered = passed-fits action (isEvent action)
-      go (refuses number) numbered = numbered
+  checked-fits : (action : Action) (c : Checked) → Numbered c → Fits (checkedNext c rules s action .answer)
+  unfolding checkedNext
+  checked-fits action passes numbered = passed-fits action (isEvent action)
+  checked-fits action (refuses number) numbered = numbered
 
 -- "An answer's number taken apart gives the answer back": of every state with its 32 sessions
 pub answer-back : (list : RuleList) (s : State) (step : Step) → length (s .active) ≡ 32 → answerOf (wordOf (stepOf list s step .answer)) ≡ stepOf list s step .answer
-unfolding stepOf
+unfolding stepOf decideStep
 answer-back list s step sessions = word-back (stepOf list s step .answer) (go (listAccepted list && stateAccepted s) refl)
   where
     go : (b : Bool) → (listAccepted list && stateAccepted s) ≡ b → Fits (stepOf list s step .answer)
-    go true e = rw (e) (decided-fits (rulesOf list) s (rules-few list (both (listAccepted list) (stateAccepted s) e .0)) sessions (actionOf step))
+    go true e = rw (e) (checked-fits (rulesOf list) s (rules-few list (both (listAccepted list) (stateAccepted s) e .0)) sessions (actionOf step) (checkStep list s step) (step-numbered list s step))
     go false e = rw (e) (omega arith, omega arith, λ h. omega arith)

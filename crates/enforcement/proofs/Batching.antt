@@ -12,14 +12,13 @@ use lib.ListN.{length, getD, take, drop, set, replicate, length-take, length-rep
 use lib.Seq.{take-all}
 use borrow.Author.Tests.{ltb-true, ltb-false}
 use Rattle.sets.proofs.Booleans.{both, of-and-false}
-use Rattle.rules.specs.Acceptance.{rulesOf, listAccepted}
+use Rattle.rules.specs.Acceptance.{listAccepted}
 use Rattle.rules.specs.declared.lists.RuleList.{RuleList}
-use Rattle.steps.specs.Steps.{actionOf}
 use Rattle.steps.specs.declared.answers.Answer.{Answer}
 use Rattle.steps.specs.declared.answers.Answer.the-variants.{Refused}
 use Rattle.steps.specs.declared.steps.Step.{Step}
 use Rattle.enforcement.specs.States.{stateAccepted}
-use Rattle.enforcement.specs.Gate.{decide, stepOf, runOf}
+use Rattle.enforcement.specs.Gate.{decideStep, stepOf, runOf}
 use Rattle.enforcement.specs.Reached.{Typed, Accepted}
 use Rattle.enforcement.specs.Runs.{lastState}
 use Rattle.enforcement.specs.Deciding.{configurationOf, stateWith, nextOf}
@@ -96,7 +95,7 @@ module _ {list : RuleList} {s : State} {batch : Batch} {last : NextConfiguration
   batch-few going = ltb-true i 32 (both (ltb i (batch .length)) (ltb i 32) going .1)
 
   pub batch-turn : (filler : Step) (next : NextConfiguration) (history′ : List ℕ) → (ltb i (batch .length) && ltb i 32) ≡ true
-      → nextOf next history′ ≡ decide (rulesOf list) (stateWith (last .configuration) history) (actionOf (getD (batch .steps) i filler))
+      → nextOf next history′ ≡ decideStep list (stateWith (last .configuration) history) (getD (batch .steps) i filler)
       → Batching list s batch next history′ (set entries i (record { answer = next .answer })) (i + 1)
   batch-turn filler next history′ going decided =
       let below : i < batch .length = ltb-true i (batch .length) (both (ltb i (batch .length)) (ltb i 32) going .0) in
@@ -105,7 +104,7 @@ module _ {list : RuleList} {s : State} {batch : Batch} {last : NextConfiguration
       let room : length (batch .steps) ≤ length unanswered = omega (arith, b .many, length-replicate {A = Entry} 32 (record { answer = Refused 40 })) in
       let told : nextOf next history′ ≡ stepOf list (stateWith (last .configuration) history) (getD (batch .steps) i noStep) =
       next-is list s (batch .steps) [] i (stateWith (last .configuration) history) (nextOf next history′) (b .accepted) (b .listed) (b .reached)
-      (decided ∙ ap (λ (step : Step). decide (rulesOf list) (stateWith (last .configuration) history) (actionOf step)) (any-filler (batch .steps) i filler noStep here)) in
+      (decided ∙ ap (λ (step : Step). decideStep list (stateWith (last .configuration) history) step) (any-filler (batch .steps) i filler noStep here)) in
       record {
         within = omega arith;
         most = omega arith;

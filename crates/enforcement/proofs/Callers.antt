@@ -30,7 +30,7 @@ use Rattle.steps.specs.declared.actions.Action.the-variants.{Close, Move, Lost}
 use Rattle.steps.specs.declared.lowest.Lowest.the-variants.{BrokenAt}
 use Rattle.steps.specs.declared.steps.Step.{Step}
 use Rattle.enforcement.specs.States.{fresh, holdsRole, isOpen, positionOf, activeRole, did, ruleHolds}
-use Rattle.enforcement.specs.Steps.{passes, check, target}
+use Rattle.enforcement.specs.Steps.{passes, checkStep, target}
 use Rattle.enforcement.specs.Decisions.{granted, refused, Verdict}
 use Rattle.enforcement.specs.Plain.{obeys, lowestBroken, Plain, refusing, breaking, taking, ending, plainRun}
 use Rattle.enforcement.specs.Gate.{stepOf, runOf, decisionOf, namedRule, compared, comparedRun}
@@ -108,21 +108,21 @@ module _ (list : RuleList) (listed : listAccepted list ≡ true) where
       some : Rule
       some = StaticSeparation 0 0
 
-  plain-named : (s : State) (step : Step) (v : Verdict) → Plain (rulesOf list) s (actionOf step) v → v .decision ≡ refused 30 → (n : ℕ) × (v .rule ≡ suc n) × LowestIs (rulesOf list) (target s (actionOf step)) n
-  plain-named s step v (refusing number e) d = absurd (check-other s (actionOf step) number e .0 (same-refusal number 30 d))
+  plain-named : (s : State) (step : Step) (v : Verdict) → Plain list s step v → v .decision ≡ refused 30 → (n : ℕ) × (v .rule ≡ suc n) × LowestIs (rulesOf list) (target s (actionOf step)) n
+  plain-named s step v (refusing number e) d = absurd (check-other list s step number e .0 (same-refusal number 30 d))
   plain-named s step v (breaking rule e request low) d =
       let t = lowest-number (λ k. ruleHolds k (target s (actionOf step))) (rulesOf list) rule low in
       (t .0, t .1, lowest-is (target s (actionOf step)) (t .0) .0 (low ∙ ap BrokenAt (t .1)))
   plain-named s step v (taking e request low) d = absurd (not-granted 30 d)
   plain-named s step v (ending l e event kept) d = absurd (not-granted 30 d)
 
-  plain-refusing : (s : State) (step : Step) (v : Verdict) → Plain (rulesOf list) s (actionOf step) v → check s (actionOf step) ≡ passes → isEvent (actionOf step) ≡ false → (n : ℕ) → lowestBroken (rulesOf list) (target s (actionOf step)) ≡ BrokenAt (suc n) → (v .decision ≡ refused 30) × (v .rule ≡ suc n)
+  plain-refusing : (s : State) (step : Step) (v : Verdict) → Plain list s step v → checkStep list s step ≡ passes → isEvent (actionOf step) ≡ false → (n : ℕ) → lowestBroken (rulesOf list) (target s (actionOf step)) ≡ BrokenAt (suc n) → (v .decision ≡ refused 30) × (v .rule ≡ suc n)
   plain-refusing s step v (refusing number e) pass request n h = absurd (let distinct : _≡_ {A = ℕ} 0 1 = cc in omega arith)
   plain-refusing s step v (breaking rule e request low) pass other n h = (refl, cc)
   plain-refusing s step v (taking e request low) pass other n h = absurd (let distinct : _≡_ {A = ℕ} 0 1 = cc in omega arith)
   plain-refusing s step v (ending l e event kept) pass request n h = absurd (true≢false (sym event ∙ request))
 
-  names-lowest : (s : State) → Accepted s → obeys (rulesOf list) s ≡ true → (step : Step) → NamesLowest (rulesOf list) s step (stepOf list s step)
+  names-lowest : (s : State) → Accepted s → obeys (rulesOf list) s ≡ true → (step : Step) → NamesLowest list s step (stepOf list s step)
   names-lowest s accepted obeyed step =
       let plain = step-plain list listed s accepted obeyed step in
       record {
@@ -200,15 +200,15 @@ module _ (list : RuleList) (listed : listAccepted list ≡ true) (steps : List S
 -- either end a 30 names the lowest rule that is broken in the step's target.
 pub service-records : (list : RuleList) → listAccepted list ≡ true → (desk hub : List Step) (handed : State) → handed ≡ lastState fresh (runOf list fresh desk) →
     (runOf list fresh desk ++ runOf list handed hub ≡ runOf list fresh (desk ++ hub))
-    × (map (λ (given : Next). namedRule (given .answer)) (runOf list fresh desk ++ runOf list handed hub) ≡ map (λ (v : Verdict). v .rule) (plainRun (rulesOf list) fresh (desk ++ hub)))
-    × Along (NamesLowest (rulesOf list)) fresh desk (runOf list fresh desk)
-    × Along (NamesLowest (rulesOf list)) handed hub (runOf list handed hub)
+    × (map (λ (given : Next). namedRule (given .answer)) (runOf list fresh desk ++ runOf list handed hub) ≡ map (λ (v : Verdict). v .rule) (plainRun list fresh (desk ++ hub)))
+    × Along (NamesLowest list) fresh desk (runOf list fresh desk)
+    × Along (NamesLowest list) handed hub (runOf list handed hub)
 service-records list listed desk hub handed same =
     let kept = kept-last list listed desk fresh fresh-accepted (all-hold-fresh (rulesOf list)) in (
       one,
       ap (map (λ (given : Next). namedRule (given .answer))) one ∙ sym (ap (map (λ (v : Verdict). v .rule)) (agreement list listed (desk ++ hub)) ∙ rules-of fresh (runOf list fresh (desk ++ hub))),
-      along-fresh list listed desk (NamesLowest (rulesOf list)) (names-lowest list listed),
-      rw same (along-run list listed (NamesLowest (rulesOf list)) (names-lowest list listed) hub (lastState fresh (runOf list fresh desk)) (kept .0) (kept .1)),
+      along-fresh list listed desk (NamesLowest list) (names-lowest list listed),
+      rw same (along-run list listed (NamesLowest list) (names-lowest list listed) hub (lastState fresh (runOf list fresh desk)) (kept .0) (kept .1)),
     )
   where
     one : runOf list fresh desk ++ runOf list handed hub ≡ runOf list fresh (desk ++ hub)

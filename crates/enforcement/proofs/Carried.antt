@@ -35,7 +35,7 @@ use Rattle.enforcement.specs.Claims.{Closes, Unclosed}
 use Rattle.enforcement.specs.declared.states.State.{State}
 use Rattle.enforcement.specs.declared.states.Next.{Next}
 use Rattle.enforcement.proofs.Ranges.{Ranged, action-ranged}
-use Rattle.enforcement.proofs.Checks.{not-refused, later-passes}
+use Rattle.enforcement.proofs.Checks.{not-refused, later-passes, step-passes}
 use Rattle.enforcement.proofs.Targets.{activate-target, deactivate-target, event-pairs}
 use Rattle.enforcement.proofs.Causes.{by-outcome, check-other, same-refusal, not-granted, granted-step, refused-forty}
 use Rattle.enforcement.proofs.Agreement.{narrow-step}
@@ -50,7 +50,7 @@ number-selected list s step =
     (λ number h.
     ⊎-elim
     (λ d. absurd (not-granted number (sym d)))
-    (λ d. absurd (check-other s (actionOf step) number h .0 (same-refusal number 30 d))))
+    (λ d. absurd (check-other list s step number h .0 (same-refusal number 30 d))))
     (λ rule pass event h d. refl) (λ after taken d. refl)
 
 -- which is how many of the list's places hold a rule that the table's row names
@@ -102,11 +102,11 @@ request-keeps s (Lend u v q t) typed numbers request other i r h = h
 request-keeps s (Recall u v q) typed numbers request other i r h = absurd (true≢false request)
 
 -- after an event only pairs that it did not itself close are active
-event-part : (rules : List Rule) (s : State) (action : Action) (given : Next) → Typed s → Narrow rules s action given → isEvent action ≡ true → decisionOf (given .answer) ≡ granted → (i r : ℕ) → activeRole (given .state) i r ≡ true → Unclosed s action i r
-event-part rules s action given typed (refusing number e) event grants i r h = absurd (not-granted number (sym grants))
-event-part rules s action given typed (breaking rule e request low) event grants i r h = absurd (true≢false (sym event ∙ request))
-event-part rules s action given typed (taking e request low) event grants i r h = absurd (true≢false (sym event ∙ request))
-event-part rules s action given typed (ending l e ev kept) event grants i r h = event-pairs s action typed ev i r .0 (kept .isPart .within i r h)
+event-part : (list : RuleList) (s : State) (step : Step) (given : Next) → Typed s → Narrow list s step given → isEvent (actionOf step) ≡ true → decisionOf (given .answer) ≡ granted → (i r : ℕ) → activeRole (given .state) i r ≡ true → Unclosed s (actionOf step) i r
+event-part list s step given typed (refusing number e) event grants i r h = absurd (not-granted number (sym grants))
+event-part list s step given typed (breaking rule e request low) event grants i r h = absurd (true≢false (sym event ∙ request))
+event-part list s step given typed (taking e request low) event grants i r h = absurd (true≢false (sym event ∙ request))
+event-part list s step given typed (ending l e ev kept) event grants i r h = event-pairs s (actionOf step) typed ev i r .0 (kept .isPart .within i r h)
 
 module _ (list : RuleList) (s : State) (step : Step) (typed : Typed s) (grants : decisionOf (stepOf list s step .answer) ≡ granted) where
   accepted : (listAccepted list ≡ true) × (stateAccepted s ≡ true)
@@ -132,7 +132,7 @@ module _ (list : RuleList) (s : State) (step : Step) (typed : Typed s) (grants :
     where
       active : activeRole s i r ≡ true
       active =
-          let pass : check s (Deactivate i r) ≡ passes = subst (λ (action : Action). check s action ≡ passes) e (granted-step list s step grants .passed) in
+          let pass : check s (Deactivate i r) ≡ passes = subst (λ (action : Action). check s action ≡ passes) e (step-passes list s step (granted-step list s step grants .passed)) in
           not-false (activeRole s i r) (not-refused (not (activeRole s i r)) 25 passes (later-passes (not (isOpen s i)) 23 _ pass))
 
       removed : (a b : Bool) → (a && not (a && not b)) ≡ (a && b)
@@ -163,7 +163,7 @@ module _ (list : RuleList) (s : State) (step : Step) (typed : Typed s) (grants :
   close-empties i e r =
       not-so (activeRole (stepOf list s step .state) i r)
       (λ h.
-      event-part (rulesOf list) s (actionOf step) (stepOf list s step) typed (narrow-step list s step typed (accepted .0) (accepted .1)) (ap isEvent e) grants i r h .1 (subst (λ (action : Action). Closes s action i r) (sym e) refl))
+      event-part list s step (stepOf list s step) typed (narrow-step list s step typed (accepted .0) (accepted .1)) (ap isEvent e) grants i r h .1 (subst (λ (action : Action). Closes s action i r) (sym e) refl))
 
   -- "a closed session's own included": each role that was active in it is ended
   pub close-ends : (i : ℕ) → actionOf step ≡ Close i → (r : ℕ) → activeRole s i r ≡ true → hasRole (endedPairs (s .active) (stepOf list s step .state .active)) i r ≡ true

@@ -1,7 +1,7 @@
 -- Each refusal is given for its own cause alone: the first cause of the step's checks, in the table's order.
 -- Assumes nothing.
-use mathlib.Core.Path.{_≡_, refl, sym, ap, _∙_}
-use mathlib.Core.Bool.{Bool, true, false, not, cond, _&&_, _||_, false≢true}
+use mathlib.Core.Path.{_≡_, refl, sym, ap, subst, _∙_}
+use mathlib.Core.Bool.{Bool, true, false, not, cond, _&&_, _||_, false≢true, and-false}
 use mathlib.Core.Logic.{_↔_, _⊎_, inl, inr, ⊎-elim}
 use mathlib.Core.List.{List, [], _∷_}
 use Prim.Native.Nat.{ℕ, zero, suc, _+_, _<_}
@@ -25,6 +25,12 @@ use Rattle.rules.specs.Families.{wordAt, sessionAt, isActiveFor}
 use Rattle.rules.specs.declared.families.Rule.{Rule}
 use Rattle.rules.specs.declared.families.Rule.the-variants.{MaxRoles}
 use Rattle.rules.specs.declared.lists.RuleList.{RuleList}
+use Rattle.rules.specs.declared.rights.Right.{Right}
+use Rattle.rules.specs.declared.rights.Right.the-variants.{Unstated, Permission}
+use Rattle.rules.specs.declared.rights.RightSlot.{RightSlot}
+use Rattle.rights.specs.Rights.{rightFor, actsClosed, isCarried, lacksRight}
+use Rattle.steps.specs.declared.acting.Acting.{Acting}
+use Rattle.steps.specs.declared.acting.Acting.the-variants.{Nobody, InSession}
 use Rattle.steps.specs.declared.lowest.Lowest.{Lowest}
 use Rattle.steps.specs.declared.lowest.Lowest.the-variants.{Unbroken, BrokenAt}
 use Rattle.steps.specs.Lowest.{lowest}
@@ -39,27 +45,27 @@ use Rattle.loans.proofs.Ranges.{in-range-means}
 use Rattle.loans.proofs.Order.{accepted-in-range}
 use Rattle.loans.proofs.Unaccepted.{unaccepted-loans, accepted-rises}
 use Rattle.enforcement.specs.States.{assignedRole, lentOutRole, loansOf, holdsRole, carries, isOpen, userOf, positionOf, activeRole, isUnknown, sessionAccepted, stateAccepted}
-use Rattle.steps.specs.Steps.{ranged, actionOf, isEvent}
-use Rattle.enforcement.specs.Steps.{Checked, passes, refuses, refuseIf, check, target}
+use Rattle.steps.specs.Steps.{ranged, ofKind, isAdministrative, actedBy, actionOf, isEvent}
+use Rattle.enforcement.specs.Steps.{Checked, passes, refuses, refuseIf, check, rightLacking, checkBy, checkStep, target}
 use Rattle.enforcement.specs.Decisions.{granted, refused}
-use Rattle.enforcement.specs.Gate.{testsSelected, grantedNext, refusedNext, requestNext, passedNext, checkedNext, decide, stepOf, decisionOf, namedRule}
+use Rattle.enforcement.specs.Gate.{testsSelected, grantedNext, refusedNext, requestNext, passedNext, checkedNext, decideStep, stepOf, decisionOf, namedRule}
 use Rattle.enforcement.specs.Narrow.{lowestSelected}
-use Rattle.enforcement.specs.Causes.{Writes, Cause, malformed, past, open-already, activate-closed, deactivate-closed, access-closed, close-closed, move-closed, lost-closed, assign-already, grant-already, activate-already, withdraw-not, take-not, deactivate-not, activate-unheld, withdraw-active, access-uncarried, lend-already, recall-none, withdraw-lent-out, lend-unassigned, lend-full, lend-ended, checksOf, FirstCause, Unaccepted, late, user-past, position-outside, keeps-user, keeps-position, keeps-role, too-many-loans, loan-past, loans-unordered}
+use Rattle.enforcement.specs.Causes.{Numbers, CanAct, Writes, ActingClosed, RightLacking, FirstOfAll, Cause, malformed, past, open-already, activate-closed, deactivate-closed, access-closed, close-closed, move-closed, lost-closed, assign-already, grant-already, activate-already, withdraw-not, take-not, deactivate-not, activate-unheld, withdraw-active, access-uncarried, lend-already, recall-none, withdraw-lent-out, lend-unassigned, lend-full, lend-ended, checksOf, FirstCause, Unaccepted, late, user-past, position-outside, keeps-user, keeps-position, keeps-role, too-many-loans, loan-past, loans-unordered}
 use Rattle.enforcement.specs.Claims.{TakesTarget}
 use Rattle.enforcement.specs.declared.states.State.{State}
 use Rattle.steps.specs.declared.steps.Step.{Step}
 use Rattle.steps.specs.declared.answers.Answer.the-variants.{Broken, Refused}
 use Rattle.enforcement.specs.declared.states.Next.{Next}
-use Rattle.enforcement.proofs.Ranges.{Ranged, action-ranged}
+use Rattle.enforcement.proofs.Ranges.{Ranged, kind-ranged}
 
 -- ---- the action that a step writes
 
 module _ (step : Step) where
   abbrev MalformedOrWritten : Action → Type 0
-  MalformedOrWritten action = (action ≡ Malformed) ⊎ Writes step action
+  MalformedOrWritten action = (action ≡ Malformed) ⊎ Numbers step action
 
   -- takes one kind off the chain of tests
-  of-kind : (kind : ℕ) (test : Bool) (action other : Action) → (step .kind ≡ kind → Ranged action → Writes step action) → (Ranged other → MalformedOrWritten other) → Ranged (cond (eqb (step .kind) kind) (ranged test action) other) → MalformedOrWritten (cond (eqb (step .kind) kind) (ranged test action) other)
+  of-kind : (kind : ℕ) (test : Bool) (action other : Action) → (step .kind ≡ kind → Ranged action → Numbers step action) → (Ranged other → MalformedOrWritten other) → Ranged (cond (eqb (step .kind) kind) (ranged test action) other) → MalformedOrWritten (cond (eqb (step .kind) kind) (ranged test action) other)
   of-kind kind test action other writes rest = go (eqb (step .kind) kind) test refl
     where
       go : (b c : Bool) → eqb (step .kind) kind ≡ b → Ranged (cond b (ranged c action) other) → MalformedOrWritten (cond b (ranged c action) other)
@@ -71,10 +77,10 @@ module _ (step : Step) where
   abbrev below : ℕ → ℕ → Bool
   below k l = ltb (step .first) k && ltb (step .second) l
 
-  -- what is read of a step is what it writes
-  reads : MalformedOrWritten (actionOf step)
-  unfolding actionOf positionInRange
-  reads =
+  -- what is read of a step's kind and numbers is what they write
+  numbers-read : MalformedOrWritten (ofKind step)
+  unfolding ofKind positionInRange
+  numbers-read =
       of-kind 0 (below 64 32) (Assign _ _) _ (λ kind n. (kind, refl, refl, n .0, n .1))
       (of-kind 1 (below 64 32) (Withdraw _ _) _ (λ kind n. (kind, refl, refl, n .0, n .1))
       (of-kind 2 (below 32 32) (Grant _ _) _ (λ kind n. (kind, refl, refl, n .0, n .1))
@@ -89,11 +95,11 @@ module _ (step : Step) where
       (of-kind 11 (ltb (step .first) 32) (Lost _) _ (λ kind n. (kind, refl, n))
       (of-kind 12 (isTime (step .first)) (Clock _) _ (λ kind n. (kind, refl, n))
       (of-kind 13 (ltb (step .first) 64 && (ltb (step .second) 64 && (ltb (step .third) 32 && isTime (step .fourth)))) (Lend _ _ _ _) _ (λ kind n. (kind, refl, refl, refl, refl, n .0, n .1, n .2, n .3))
-      (of-kind 14 (ltb (step .first) 64 && (ltb (step .second) 64 && ltb (step .third) 32)) (Recall _ _ _) _ (λ kind n. (kind, refl, refl, refl, n .0, n .1, n .2)) (λ n. inl refl))))))))))))))) (action-ranged step)
+      (of-kind 14 (ltb (step .first) 64 && (ltb (step .second) 64 && ltb (step .third) 32)) (Recall _ _ _) _ (λ kind n. (kind, refl, refl, refl, n .0, n .1, n .2)) (λ n. inl refl))))))))))))))) (kind-ranged step)
 
-  -- and what a step writes is read of it
-  read-as : (action : Action) → Writes step action → actionOf step ≡ action
-  unfolding actionOf positionInRange pointInRange
+  -- and what they write is read of them
+  read-as : (action : Action) → Numbers step action → ofKind step ≡ action
+  unfolding ofKind positionInRange pointInRange
   read-as Malformed w = absurd w
   read-as (Assign u r) w = rw (w .0, w .1, w .2, lt-ltb u 64 (w .3), lt-ltb r 32 (w .4))
   read-as (Withdraw u r) w = rw (w .0, w .1, w .2, lt-ltb u 64 (w .3), lt-ltb r 32 (w .4))
@@ -111,15 +117,40 @@ module _ (step : Step) where
   read-as (Lend u v r t) w = rw (w .0, w .1, w .2, w .3, w .4, lt-ltb u 64 (w .5), lt-ltb v 64 (w .6), lt-ltb r 32 (w .7), le-leb t 3155759999 (w .8))
   read-as (Recall u v r) w = rw (w .0, w .1, w .2, w .3, lt-ltb u 64 (w .4), lt-ltb v 64 (w .5), lt-ltb r 32 (w .6))
 
+  -- with who acts
+  reads : (actionOf step ≡ Malformed) ⊎ Writes step (actionOf step)
+  unfolding actionOf
+  reads = ⊎-elim (λ e. inl (rw e (acted-malformed (step .by)))) (λ w. by-acting (step .by) refl w) numbers-read
+    where
+      acted-malformed : (by : Acting) → actedBy by Malformed ≡ Malformed
+      acted-malformed Nobody = refl
+      acted-malformed (InSession i) = rw (and-false (ltb i 32))
+
+      by-acting : (by : Acting) → step .by ≡ by → Numbers step (ofKind step) → (actedBy by (ofKind step) ≡ Malformed) ⊎ (Numbers step (actedBy by (ofKind step)) × CanAct (step .by) (actedBy by (ofKind step)))
+      by-acting Nobody e w = inr (w, subst (λ (who : Acting). CanAct who (ofKind step)) (sym e) tt)
+      by-acting (InSession i) e w = go (ltb i 32 && isAdministrative (ofKind step)) refl
+        where
+          go : (b : Bool) → ltb i 32 && isAdministrative (ofKind step) ≡ b → (ranged b (ofKind step) ≡ Malformed) ⊎ (Numbers step (ranged b (ofKind step)) × CanAct (step .by) (ranged b (ofKind step)))
+          go true h = let two = both (ltb i 32) (isAdministrative (ofKind step)) h in inr (w, subst (λ (who : Acting). CanAct who (ofKind step)) (sym e) (ltb-true i 32 (two .0), two .1))
+          go false h = inl refl
+
+  written-reads : (action : Action) → Writes step action → actionOf step ≡ action
+  unfolding actionOf
+  written-reads action w = ap (actedBy (step .by)) (read-as action (w .0)) ∙ by-acting (step .by) (w .1)
+    where
+      by-acting : (by : Acting) → CanAct by action → actedBy by action ≡ action
+      by-acting Nobody can = refl
+      by-acting (InSession i) can = rw (lt-ltb i 32 (can .0), can .1)
+
 -- a step is read as the action that it writes
 pub written : (step : Step) (action : Action) → (action ≡ Malformed → ⊥) → (actionOf step ≡ action) ↔ Writes step action
 written step action proper =
-    (λ h. ⊎-elim (λ e. absurd (proper (sym h ∙ e))) (λ w. rw h at w) (reads step), read-as step action)
+    (λ h. ⊎-elim (λ e. absurd (proper (sym h ∙ e))) (λ w. rw h at w) (reads step), written-reads step action)
 
 -- and is malformed exactly where it writes none
 pub unwritten : (step : Step) → (actionOf step ≡ Malformed) ↔ ((action : Action) → Writes step action → ⊥)
 unwritten step =
-    (λ h action w. rw (sym (read-as step action w) ∙ h) at w, λ none. ⊎-elim (λ e. e) (λ w. absurd (none (actionOf step) w)) (reads step))
+    (λ h action w. rw (sym (written-reads step action w) ∙ h) at (w .0), λ none. ⊎-elim (λ e. e) (λ w. absurd (none (actionOf step) w)) (reads step))
 
 -- ---- the first cause
 
@@ -294,6 +325,38 @@ own-cause s (Recall u v r) n =
         recall-none u v r
         (λ loan member lender borrower role. clash (some-means (isNamed u v r) (loansOf s) .1 (loan, member, named-of u v r loan lender borrower role)) h)
 
+-- ---- 53 and 54
+
+pub closed-means : (s : State) (by : Acting) → (actsClosed (s .sessions) by ≡ true) ↔ ActingClosed s by
+closed-means s Nobody = (λ h. absurd (false≢true h), λ none. absurd none)
+closed-means s (InSession i) = (λ h. not-true (isOpen s i) h, λ e. rw e)
+
+pub lacking-means : (s : State) (by : Acting) (right : Right) → (lacksRight right by (s .active) (s .granted) ≡ true) ↔ RightLacking s by right
+unfolding isCarried
+lacking-means s by Unstated = (λ h. absurd (false≢true h), λ none. absurd none)
+lacking-means s Nobody (Permission p) = (λ h. tt, λ h. refl)
+lacking-means s (InSession i) (Permission p) = (
+  λ h r low active carried.
+      clash (any-of 32 r (λ q. activeRole s i q && carries s q p) low (both-true (activeRole s i r) (carries s r p) active carried)) (not-true _ h),
+  λ none. ap not (not-so _ (λ e.
+      let some = of-any 32 (λ q. activeRole s i q && carries s q p) e in
+      let two = both (activeRole s i (some .0)) (carries s (some .0) p) (some .2) in
+      none (some .0) (some .1) (two .0) (two .1))),
+)
+
+-- of the six kinds 53 comes first, then 54, then the kind's own numbers, each for its own cause
+pub own-cause-by : (rights : List RightSlot) (s : State) (by : Acting) (action : Action) (number : ℕ) → isAdministrative action ≡ true → (checkBy rights s by action ≡ refuses number) ↔ FirstOfAll rights s by action number
+unfolding checkBy
+own-cause-by rights s by action n administrative =
+    rw administrative
+    (first-cause (actsClosed (s .sessions) by) 53 n _ (closed-means s by)
+    (first-cause (rightLacking rights s by action) 54 n (check s action) (lacking-means s by (rightFor rights action)) (own-cause s action n)))
+
+-- of the others, and of a malformed step, neither is looked for
+pub own-cause-other : (rights : List RightSlot) (s : State) (by : Acting) (action : Action) → isAdministrative action ≡ false → checkBy rights s by action ≡ check s action
+unfolding checkBy
+own-cause-other rights s by action other = rw other
+
 -- ---- the lowest broken rule
 
 -- rule n, counted from 0 on, fails the test and none before it does
@@ -420,43 +483,43 @@ module _
     (step : Step)
     (P : Next → Type 0)
     (forty : listAccepted list && stateAccepted s ≡ false → P (refusedNext s (Refused 40)))
-    (checks : (number : ℕ) → check s (actionOf step) ≡ refuses number → P (refusedNext s (Refused number)))
-    (thirty : (rule : ℕ) → check s (actionOf step) ≡ passes → isEvent (actionOf step) ≡ false → lowestSelected (rulesOf list) (actionOf step) (target s (actionOf step)) ≡ BrokenAt rule → P (refusedNext s (Broken rule (selectedNumber (selects (actionOf step)) (rulesOf list)))))
-    (grants : (after : State) → TakesTarget s (actionOf step) after → P (grantedNext (selectedNumber (selects (actionOf step)) (rulesOf list)) s after))
+    (checks : (number : ℕ) → checkStep list s step ≡ refuses number → P (refusedNext s (Refused number)))
+    (thirty : (rule : ℕ) → checkStep list s step ≡ passes → isEvent (actionOf step) ≡ false → lowestSelected (rulesOf list) (actionOf step) (target s (actionOf step)) ≡ BrokenAt rule → P (refusedNext s (Broken rule (selectedNumber (selects (actionOf step)) (rulesOf list)))))
+    (grants : (after : State) → TakesTarget list s step after → P (grantedNext (selectedNumber (selects (actionOf step)) (rulesOf list)) s after))
   where
-    by-lowest : check s (actionOf step) ≡ passes → isEvent (actionOf step) ≡ false → (low : Lowest) → lowestSelected (rulesOf list) (actionOf step) (target s (actionOf step)) ≡ low → P (requestNext (selectedNumber (selects (actionOf step)) (rulesOf list)) s (target s (actionOf step)) low)
+    by-lowest : checkStep list s step ≡ passes → isEvent (actionOf step) ≡ false → (low : Lowest) → lowestSelected (rulesOf list) (actionOf step) (target s (actionOf step)) ≡ low → P (requestNext (selectedNumber (selects (actionOf step)) (rulesOf list)) s (target s (actionOf step)) low)
     unfolding requestNext
     by-lowest pass event Unbroken e = grants (target s (actionOf step)) (record { passed = pass; requested = λ request. refl; changed = refl })
     by-lowest pass event (BrokenAt rule) e = thirty rule pass event e
 
-    by-event : check s (actionOf step) ≡ passes → (event : Bool) → isEvent (actionOf step) ≡ event → P (passedNext event (rulesOf list) s (actionOf step))
+    by-event : checkStep list s step ≡ passes → (event : Bool) → isEvent (actionOf step) ≡ event → P (passedNext event (rulesOf list) s (actionOf step))
     unfolding passedNext
     by-event pass true e = grants _ (record { passed = pass; requested = λ request. absurd (false≢true (sym request ∙ e)); changed = refl })
     by-event pass false e = by-lowest pass e (lowestSelected (rulesOf list) (actionOf step) (target s (actionOf step))) refl
 
-    by-check : (checked : Checked) → check s (actionOf step) ≡ checked → P (checkedNext checked (rulesOf list) s (actionOf step))
+    by-check : (checked : Checked) → checkStep list s step ≡ checked → P (checkedNext checked (rulesOf list) s (actionOf step))
     unfolding checkedNext
     by-check passes e = by-event e (isEvent (actionOf step)) refl
     by-check (refuses number) e = checks number e
 
-    by-acceptance : (accepted : Bool) → listAccepted list && stateAccepted s ≡ accepted → P (cond accepted (decide (rulesOf list) s (actionOf step)) (refusedNext s (Refused 40)))
-    unfolding decide
-    by-acceptance true e = by-check (check s (actionOf step)) refl
+    by-acceptance : (accepted : Bool) → listAccepted list && stateAccepted s ≡ accepted → P (cond accepted (decideStep list s step) (refusedNext s (Refused 40)))
+    unfolding decideStep
+    by-acceptance true e = by-check (checkStep list s step) refl
     by-acceptance false e = forty e
 
     pub by-outcome : P (stepOf list s step)
     unfolding stepOf
     by-outcome = by-acceptance (listAccepted list && stateAccepted s) refl
 
--- the checks refuse with neither 30 nor 40
+-- a kind's own checks refuse with neither 30 nor 40, and with none from 53 on
 abbrev Other : ℕ → Type 0
-Other n = (n ≡ 30 → ⊥) × (n ≡ 40 → ⊥)
+Other n = (n ≡ 30 → ⊥) × (n ≡ 40 → ⊥) × (n < 53)
 
 below-other : {n : ℕ} → n < 30 → Other n
-below-other low = (λ e. omega arith, λ e. omega arith)
+below-other low = (λ e. omega arith, λ e. omega arith, omega arith)
 
-above-other : {n : ℕ} → 40 < n → Other n
-above-other high = (λ e. omega arith, λ e. omega arith)
+above-other : {n : ℕ} → 40 < n → n < 53 → Other n
+above-other high low = (λ e. omega arith, λ e. omega arith, low)
 
 cause-other : {s : State} {action : Action} {n : ℕ} → Cause s action n → Other n
 cause-other malformed = below-other (lit< tt)
@@ -480,17 +543,31 @@ cause-other (access-uncarried i p o h) = below-other (lit< tt)
 cause-other (lend-already u v r t h) = below-other (lit< tt)
 cause-other (recall-none u v r h) = below-other (lit< tt)
 cause-other (withdraw-lent-out u r loan member lender role) = below-other (lit< tt)
-cause-other (lend-unassigned u v r t h) = above-other (lit< tt)
-cause-other (lend-full u v r t h) = above-other (lit< tt)
-cause-other (lend-ended u v r t h) = above-other (lit< tt)
+cause-other (lend-unassigned u v r t h) = above-other (lit< tt) (lit< tt)
+cause-other (lend-full u v r t h) = above-other (lit< tt) (lit< tt)
+cause-other (lend-ended u v r t h) = above-other (lit< tt) (lit< tt)
 
 first-is-cause : (s : State) (action : Action) (numbers : List ℕ) (n : ℕ) → FirstCause s action numbers n → Cause s action n
 first-is-cause s action [] n t = absurd t
 first-is-cause s action (number ∷ rest) n (inl t) = rw (t .0) (t .1)
 first-is-cause s action (number ∷ rest) n (inr t) = first-is-cause s action rest n (t .1)
 
-pub check-other : (s : State) (action : Action) (n : ℕ) → check s action ≡ refuses n → (n ≡ 30 → ⊥) × (n ≡ 40 → ⊥)
-check-other s action n h = cause-other (first-is-cause s action (checksOf action) n (own-cause s action n .0 h))
+pub own-other : (s : State) (action : Action) (n : ℕ) → check s action ≡ refuses n → Other n
+own-other s action n h = cause-other (first-is-cause s action (checksOf action) n (own-cause s action n .0 h))
+
+-- and so do 53 and 54
+pub check-other : (list : RuleList) (s : State) (step : Step) (n : ℕ) → checkStep list s step ≡ refuses n → (n ≡ 30 → ⊥) × (n ≡ 40 → ⊥)
+unfolding checkBy
+check-other list s step n h = go (isAdministrative (actionOf step)) (actsClosed (s .sessions) (step .by)) (rightLacking (list .rights) s (step .by) (actionOf step)) h
+  where
+    own : check s (actionOf step) ≡ refuses n → (n ≡ 30 → ⊥) × (n ≡ 40 → ⊥)
+    own e = let other = own-other s (actionOf step) n e in (other .0, other .1)
+
+    go : (administrative closed lacking : Bool) → cond administrative (refuseIf closed 53 (refuseIf lacking 54 (check s (actionOf step)))) (check s (actionOf step)) ≡ refuses n → (n ≡ 30 → ⊥) × (n ≡ 40 → ⊥)
+    go true true lacking e = let number : 53 ≡ n = cc in (λ h. omega arith, λ h. omega arith)
+    go true false true e = let number : 54 ≡ n = cc in (λ h. omega arith, λ h. omega arith)
+    go true false false e = own e
+    go false closed lacking e = own e
 
 pub same-refusal : (a b : ℕ) → refused a ≡ refused b → a ≡ b
 same-refusal a b h = cc
@@ -499,9 +576,9 @@ pub not-granted : (n : ℕ) → granted ≡ refused n → ⊥
 not-granted n h = let distinct : _≡_ {A = ℕ} 0 1 = cc in omega arith
 
 -- a granted step hands back its target
-pub granted-step : (list : RuleList) (s : State) (step : Step) → decisionOf (stepOf list s step .answer) ≡ granted → TakesTarget s (actionOf step) (stepOf list s step .state)
+pub granted-step : (list : RuleList) (s : State) (step : Step) → decisionOf (stepOf list s step .answer) ≡ granted → TakesTarget list s step (stepOf list s step .state)
 granted-step list s step =
-    by-outcome list s step (λ next. decisionOf (next .answer) ≡ granted → TakesTarget s (actionOf step) (next .state))
+    by-outcome list s step (λ next. decisionOf (next .answer) ≡ granted → TakesTarget list s step (next .state))
     (λ h d. absurd (not-granted 40 (sym d))) (λ number h d. absurd (not-granted number (sym d)))
     (λ rule pass event h d. absurd (not-granted 30 (sym d))) (λ after taken d. taken)
 
@@ -512,16 +589,16 @@ refused-forty list s step = (
   λ h. rw h,
   by-outcome list s step (λ next. decisionOf (next .answer) ≡ refused 40 → listAccepted list && stateAccepted s ≡ false)
       (λ h d. h)
-      (λ number h d. absurd (check-other s (actionOf step) number h .1 (same-refusal number 40 d)))
+      (λ number h d. absurd (check-other list s step number h .1 (same-refusal number 40 d)))
       (λ rule pass event h d. let same = same-refusal 30 40 d in absurd (omega arith))
       (λ after taken d. absurd (not-granted 40 d)),
 )
 
 -- and then the checks
-pub refused-check : (list : RuleList) (s : State) (step : Step) (number : ℕ) → listAccepted list && stateAccepted s ≡ true → (number ≡ 30 → ⊥) → (decisionOf (stepOf list s step .answer) ≡ refused number) ↔ (check s (actionOf step) ≡ refuses number)
-unfolding stepOf decide checkedNext
+pub refused-check : (list : RuleList) (s : State) (step : Step) (number : ℕ) → listAccepted list && stateAccepted s ≡ true → (number ≡ 30 → ⊥) → (decisionOf (stepOf list s step .answer) ≡ refused number) ↔ (checkStep list s step ≡ refuses number)
+unfolding stepOf decideStep checkedNext
 refused-check list s step number accepted other = (
-  by-outcome list s step (λ next. decisionOf (next .answer) ≡ refused number → check s (actionOf step) ≡ refuses number)
+  by-outcome list s step (λ next. decisionOf (next .answer) ≡ refused number → checkStep list s step ≡ refuses number)
       (λ h d. clash accepted h)
       (λ n h d. h ∙ ap refuses (same-refusal n number d))
       (λ rule pass event h d. absurd (other (sym (same-refusal 30 number d))))
@@ -530,12 +607,12 @@ refused-check list s step number accepted other = (
 )
 
 -- and then 30, with the lowest broken one of the rules that a request selects
-pub refused-thirty : (list : RuleList) (s : State) (step : Step) (rule : ℕ) → listAccepted list && stateAccepted s ≡ true → ((decisionOf (stepOf list s step .answer) ≡ refused 30) × (namedRule (stepOf list s step .answer) ≡ rule)) ↔ ((check s (actionOf step) ≡ passes) × (isEvent (actionOf step) ≡ false) × (lowest (testsSelected (selects (actionOf step)) (target s (actionOf step))) 1 (rulesOf list) ≡ BrokenAt rule))
-unfolding stepOf decide checkedNext passedNext requestNext
+pub refused-thirty : (list : RuleList) (s : State) (step : Step) (rule : ℕ) → listAccepted list && stateAccepted s ≡ true → ((decisionOf (stepOf list s step .answer) ≡ refused 30) × (namedRule (stepOf list s step .answer) ≡ rule)) ↔ ((checkStep list s step ≡ passes) × (isEvent (actionOf step) ≡ false) × (lowest (testsSelected (selects (actionOf step)) (target s (actionOf step))) 1 (rulesOf list) ≡ BrokenAt rule))
+unfolding stepOf decideStep checkedNext passedNext requestNext
 refused-thirty list s step rule accepted = (
-  by-outcome list s step (λ next. (decisionOf (next .answer) ≡ refused 30) × (namedRule (next .answer) ≡ rule) → (check s (actionOf step) ≡ passes) × (isEvent (actionOf step) ≡ false) × (lowestSelected (rulesOf list) (actionOf step) (target s (actionOf step)) ≡ BrokenAt rule))
+  by-outcome list s step (λ next. (decisionOf (next .answer) ≡ refused 30) × (namedRule (next .answer) ≡ rule) → (checkStep list s step ≡ passes) × (isEvent (actionOf step) ≡ false) × (lowestSelected (rulesOf list) (actionOf step) (target s (actionOf step)) ≡ BrokenAt rule))
       (λ h d. clash accepted h)
-      (λ number h d. absurd (check-other s (actionOf step) number h .0 (same-refusal number 30 (d .0))))
+      (λ number h d. absurd (check-other list s step number h .0 (same-refusal number 30 (d .0))))
       (λ number pass event h d. (pass, event, h ∙ ap BrokenAt (d .1)))
       (λ after taken d. absurd (not-granted 30 (d .0))),
   λ t. rw (accepted, t .0, t .1, t .2) (refl, refl),

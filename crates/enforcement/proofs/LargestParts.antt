@@ -5,13 +5,11 @@ use mathlib.Core.Path.{_≡_, sym, _∙_}
 use mathlib.Core.Bool.{true, true≢false}
 use mathlib.Core.List.{List}
 use Rattle.rules.specs.Acceptance.{rulesOf, listAccepted}
-use Rattle.rules.specs.declared.families.Rule.{Rule}
 use Rattle.rules.specs.declared.lists.RuleList.{RuleList}
 use Rattle.steps.specs.Steps.{actionOf, isEvent}
-use Rattle.steps.specs.declared.actions.Action.{Action}
 use Rattle.steps.specs.declared.steps.Step.{Step}
 use Rattle.enforcement.specs.States.{fresh}
-use Rattle.enforcement.specs.Steps.{passes, check, target, withActive}
+use Rattle.enforcement.specs.Steps.{passes, checkStep, target, withActive}
 use Rattle.enforcement.specs.Decisions.{granted, Verdict}
 use Rattle.enforcement.specs.Plain.{obeys, Plain, refusing, breaking, taking, ending}
 use Rattle.enforcement.specs.Gate.{stepOf, runOf, compared}
@@ -19,6 +17,7 @@ use Rattle.enforcement.specs.Reached.{Typed, Accepted, Good, Reached}
 use Rattle.enforcement.specs.Claims.{Along, LargestLeft, LeavesLargest}
 use Rattle.enforcement.specs.declared.states.State.{State}
 use Rattle.enforcement.proofs.Ranges.{action-ranged}
+use Rattle.enforcement.proofs.Checks.{step-passes}
 use Rattle.enforcement.proofs.Holding.{obeys-means}
 use Rattle.enforcement.proofs.Targets.{event-pairs}
 use Rattle.enforcement.proofs.Kept.{accepted-target}
@@ -27,25 +26,25 @@ use Rattle.enforcement.proofs.Agreement.{step-plain, along-fresh}
 use Rattle.enforcement.proofs.Reaching.{reached-good}
 
 -- what the plain gate grants an event
-plain-leaves : (rules : List Rule) (s : State) (action : Action) (v : Verdict) → Typed s → (check s action ≡ passes → Typed (target s action)) → Plain rules s action v → isEvent action ≡ true → v .decision ≡ granted → LargestLeft rules s action (v .state)
-plain-leaves rules s action v before typed (refusing number e) event grants = absurd (not-granted number (sym grants))
-plain-leaves rules s action v before typed (breaking rule e request low) event grants = absurd (true≢false (sym event ∙ request))
-plain-leaves rules s action v before typed (taking e request low) event grants = absurd (true≢false (sym event ∙ request))
-plain-leaves rules s action v before typed (ending l e ev kept) event grants =
+plain-leaves : (list : RuleList) (s : State) (step : Step) (v : Verdict) → Typed s → (checkStep list s step ≡ passes → Typed (target s (actionOf step))) → Plain list s step v → isEvent (actionOf step) ≡ true → v .decision ≡ granted → LargestLeft (rulesOf list) s (actionOf step) (v .state)
+plain-leaves list s step v before typed (refusing number e) event grants = absurd (not-granted number (sym grants))
+plain-leaves list s step v before typed (breaking rule e request low) event grants = absurd (true≢false (sym event ∙ request))
+plain-leaves list s step v before typed (taking e request low) event grants = absurd (true≢false (sym event ∙ request))
+plain-leaves list s step v before typed (ending l e ev kept) event grants =
     record {
-      part = λ i r h. event-pairs s action before ev i r .0 (kept .isPart .within i r h);
-      holding = obeys-means rules (withActive (target s action) l) .0 (kept .holding);
+      part = λ i r h. event-pairs s (actionOf step) before ev i r .0 (kept .isPart .within i r h);
+      holding = obeys-means (rulesOf list) (withActive (target s (actionOf step)) l) .0 (kept .holding);
       largest = λ m long within holding i r h.
           kept .largest m
-          (record { sameLength = long ∙ sym (typed e .actives); within = λ j q x. event-pairs s action before ev j q .1 (within j q x) })
-          (obeys-means rules (withActive (target s action) m) .1 holding) .within i r h;
+          (record { sameLength = long ∙ sym (typed e .actives); within = λ j q x. event-pairs s (actionOf step) before ev j q .1 (within j q x) })
+          (obeys-means (rulesOf list) (withActive (target s (actionOf step)) m) .1 holding) .within i r h;
     }
 
 module _ (list : RuleList) (listed : listAccepted list ≡ true) where
   event-leaves : (s : State) → Accepted s → obeys (rulesOf list) s ≡ true → (step : Step) → LeavesLargest (rulesOf list) s step (stepOf list s step)
   event-leaves s accepted obeyed step =
-      plain-leaves (rulesOf list) s (actionOf step) (compared s (stepOf list s step)) (accepted .typed)
-      (λ pass. accepted-target (actionOf step) s accepted (action-ranged step) pass .typed) (step-plain list listed s accepted obeyed step)
+      plain-leaves list s step (compared s (stepOf list s step)) (accepted .typed)
+      (λ pass. accepted-target (actionOf step) s accepted (action-ranged step) (step-passes list s step pass) .typed) (step-plain list listed s accepted obeyed step)
 
   -- over every list of steps from a fresh state
   pub largest-part : (steps : List Step) → Along (LeavesLargest (rulesOf list)) fresh steps (runOf list fresh steps)

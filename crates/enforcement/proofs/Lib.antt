@@ -18,8 +18,9 @@ pub mod Carried
 pub mod Targets
 pub mod LargestParts
 pub mod WholeLists
+pub mod Safety
+pub mod Rights
 pub mod PlainGate
-pub mod Passing
 pub mod Planning
 pub mod Settling
 pub mod RequestLaws

@@ -7,9 +7,11 @@ use lib.Dec.{eqb, ltb, leb}
 use borrow.Author.Tests.{ltb-true, leb-true}
 use Rattle.sets.proofs.Booleans.{both}
 use Rattle.places.specs.Places.{onGrid, pointInRange}
+use Rattle.steps.specs.declared.acting.Acting.{Acting}
+use Rattle.steps.specs.declared.acting.Acting.the-variants.{Nobody, InSession}
 use Rattle.steps.specs.declared.actions.Action.{Action}
 use Rattle.steps.specs.declared.actions.Action.the-variants.{Malformed, Assign, Withdraw, Grant, Take, Open, Activate, Deactivate, Access, Finish, Close, Move, Lost, Clock, Lend, Recall}
-use Rattle.steps.specs.Steps.{isTime, ranged, actionOf}
+use Rattle.steps.specs.Steps.{isTime, ranged, ofKind, isAdministrative, actedBy, actionOf}
 use Rattle.steps.specs.declared.steps.Step.{Step}
 
 -- each number is in the range that document 01 gives it
@@ -60,9 +62,9 @@ module _ (step : Step) where
       let last = both (ltb (step .third) 32) (isTime (step .fourth)) (others .1) in
       (t .0, ltb-true (step .second) 64 (others .0), ltb-true (step .third) 32 (last .0), leb-true (step .fourth) 3155759999 (last .1))
 
-pub action-ranged : (step : Step) → Ranged (actionOf step)
-unfolding actionOf pointInRange
-action-ranged step =
+pub kind-ranged : (step : Step) → Ranged (ofKind step)
+unfolding ofKind pointInRange
+kind-ranged step =
     of-kind step 0 _ _ _ (first-two step 64 32)
     (of-kind step 1 _ _ _ (first-two step 64 32)
     (of-kind step 2 _ _ _ (first-two step 32 32)
@@ -78,3 +80,15 @@ action-ranged step =
     (of-kind step 12 _ _ _ (leb-true (step .first) 3155759999)
     (of-kind step 13 _ _ _ (all-four step)
     (of-kind step 14 _ _ _ (all-three step 64 64 32) tt))))))))))))))
+
+acted-ranged : (by : Acting) (action : Action) → Ranged action → Ranged (actedBy by action)
+acted-ranged Nobody action numbers = numbers
+acted-ranged (InSession i) action numbers = go (ltb i 32 && isAdministrative action)
+  where
+    go : (b : Bool) → Ranged (ranged b action)
+    go true = numbers
+    go false = tt
+
+pub action-ranged : (step : Step) → Ranged (actionOf step)
+unfolding actionOf
+action-ranged step = acted-ranged (step .by) (ofKind step) (kind-ranged step)

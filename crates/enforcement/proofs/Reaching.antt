@@ -2,14 +2,11 @@
 -- Assumes nothing.
 use mathlib.Core.Path.{_≡_}
 use mathlib.Core.Bool.{Bool, true, false, cond, _&&_}
-use mathlib.Core.List.{List}
 use Rattle.rules.specs.Acceptance.{rulesOf, listAccepted}
-use Rattle.rules.specs.declared.families.Rule.{Rule}
 use Rattle.rules.specs.declared.lists.RuleList.{RuleList}
-use Rattle.steps.specs.declared.actions.Action.{Action}
 use Rattle.steps.specs.Steps.{actionOf}
 use Rattle.enforcement.specs.Steps.{target}
-use Rattle.enforcement.specs.Gate.{refusedNext, decide, stepOf}
+use Rattle.enforcement.specs.Gate.{refusedNext, decideStep, stepOf}
 use Rattle.enforcement.specs.Narrow.{Narrow, refusing, breaking, taking, ending}
 pub use Rattle.enforcement.specs.Reached.{Good}
 use Rattle.enforcement.specs.Reached.{Accepted, Held, Lending, Reached, start, read, stepped}
@@ -17,7 +14,8 @@ use Rattle.enforcement.specs.declared.states.State.{State}
 use Rattle.steps.specs.declared.steps.Step.{Step}
 use Rattle.steps.specs.declared.answers.Answer.the-variants.{Refused}
 use Rattle.enforcement.specs.declared.states.Next.{Next}
-use Rattle.enforcement.proofs.Ranges.{Ranged, action-ranged}
+use Rattle.enforcement.proofs.Ranges.{action-ranged}
+use Rattle.enforcement.proofs.Checks.{step-passes}
 use Rattle.enforcement.proofs.Kept.{accepted-target, accepted-part, held-target, held-part, fresh-accepted, fresh-held}
 use Rattle.enforcement.proofs.Lending.{lending-target, lending-part, fresh-lending}
 use Rattle.enforcement.proofs.Agreement.{step-narrow, step-keeps, all-hold-fresh}
@@ -28,24 +26,30 @@ record Kept (before after : State) : Type 0 where
   stillHeld : Held before → Held after
   stillLending : Lending before → Lending after
 
-narrow-keeps : (rules : List Rule) (s : State) (action : Action) (given : Next) → Accepted s → Ranged action → Narrow rules s action given → Kept s (given .state)
-narrow-keeps rules s action given accepted ranged (refusing number e) = record { stillAccepted = accepted; stillHeld = λ held. held; stillLending = λ lending. lending }
-narrow-keeps rules s action given accepted ranged (breaking rule e event low) = record { stillAccepted = accepted; stillHeld = λ held. held; stillLending = λ lending. lending }
-narrow-keeps rules s action given accepted ranged (taking e event low) =
-    record { stillAccepted = accepted-target action s accepted ranged e; stillHeld = held-target action s accepted ranged e; stillLending = lending-target action s accepted ranged e }
-narrow-keeps rules s action given accepted ranged (ending l e event largest) =
+narrow-keeps : (list : RuleList) (s : State) (step : Step) (given : Next) → Accepted s → Narrow list s step given → Kept s (given .state)
+narrow-keeps list s step given accepted (refusing number e) = record { stillAccepted = accepted; stillHeld = λ held. held; stillLending = λ lending. lending }
+narrow-keeps list s step given accepted (breaking rule e event low) = record { stillAccepted = accepted; stillHeld = λ held. held; stillLending = λ lending. lending }
+narrow-keeps list s step given accepted (taking e event low) =
+    let pass = step-passes list s step e in
     record {
-      stillAccepted = accepted-part (target s action) l (accepted-target action s accepted ranged e) (largest .isPart);
-      stillHeld = λ held. held-part (target s action) l (held-target action s accepted ranged e held) (largest .isPart);
-      stillLending = λ lending. lending-part (target s action) l (lending-target action s accepted ranged e lending);
+      stillAccepted = accepted-target (actionOf step) s accepted (action-ranged step) pass;
+      stillHeld = held-target (actionOf step) s accepted (action-ranged step) pass;
+      stillLending = lending-target (actionOf step) s accepted (action-ranged step) pass;
+    }
+narrow-keeps list s step given accepted (ending l e event largest) =
+    let pass = step-passes list s step e in
+    record {
+      stillAccepted = accepted-part (target s (actionOf step)) l (accepted-target (actionOf step) s accepted (action-ranged step) pass) (largest .isPart);
+      stillHeld = λ held. held-part (target s (actionOf step)) l (held-target (actionOf step) s accepted (action-ranged step) pass held) (largest .isPart);
+      stillLending = λ lending. lending-part (target s (actionOf step)) l (lending-target (actionOf step) s accepted (action-ranged step) pass lending);
     }
 
 step-kept : (list : RuleList) (s : State) (step : Step) → Accepted s → Kept s (stepOf list s step .state)
 unfolding stepOf
 step-kept list s step accepted = rw (accepted .unrefused) (by-list (listAccepted list))
   where
-    by-list : (listed : Bool) → Kept s (cond (listed && true) (decide (rulesOf list) s (actionOf step)) (refusedNext s (Refused 40)) .state)
-    by-list true = narrow-keeps (rulesOf list) s (actionOf step) (decide (rulesOf list) s (actionOf step)) accepted (action-ranged step) (step-narrow (rulesOf list) s accepted (actionOf step) (action-ranged step))
+    by-list : (listed : Bool) → Kept s (cond (listed && true) (decideStep list s step) (refusedNext s (Refused 40)) .state)
+    by-list true = narrow-keeps list s step (decideStep list s step) accepted (step-narrow list s accepted step)
     by-list false = record { stillAccepted = accepted; stillHeld = λ held. held; stillLending = λ lending. lending }
 
 -- a step hands back a state that 40 does not refuse, whatever the rules

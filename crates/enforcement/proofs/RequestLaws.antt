@@ -1,22 +1,15 @@
 -- A step's decision by what its checks and its judgement say: what the code of a step cites.
 -- Assumes nothing.
 use mathlib.Core.Path.{_≡_, refl, sym, ap, ap₂, _∙_}
-use mathlib.Core.Bool.{Bool, true, false, not, cond, _&&_, _||_}
+use mathlib.Core.Bool.{Bool, true, false, not}
 use mathlib.Core.Logic.{_⊎_, inl, inr}
 use mathlib.Core.List.{List, [], _∷_}
-use Prim.Native.Nat.{ℕ, zero, suc, _+_, _*_, _<_, _≤_}
+use Prim.Native.Nat.{ℕ, zero, suc, _+_, _*_, _<_}
 use native.Mathlib.Nat.{zero-add, add-zero}
-use native.Mathlib.Numerals.{add-one}
 use native.Mathlib.Omega.{arith}
-use lib.Dec.{ltb}
-use lib.ListN.{length, set, List·getD-eq-default}
-use lib.Seq.{set-out}
-use borrow.Author.Tests.{lt-ltb, ltb-true, ltb-false}
-use Rattle.sets.specs.Sets.{member, difference, any, count}
-use Rattle.sets.proofs.Booleans.{left-or}
-use Rattle.sets.proofs.Bounded.{any-same}
-use Rattle.sets.proofs.Members.{member-empty}
-use Rattle.rules.specs.Families.{view, wordAt, hasRole, permissionsOf}
+use lib.ListN.{length, set}
+use Rattle.sets.specs.Sets.{member, difference, count}
+use Rattle.rules.specs.Families.{view, wordAt}
 use Rattle.rules.specs.declared.families.Rule.{Rule}
 use Rattle.steps.specs.declared.lowest.Lowest.{Lowest}
 use Rattle.steps.specs.declared.lowest.Lowest.the-variants.{Unbroken, BrokenAt}
@@ -28,17 +21,14 @@ use Rattle.steps.specs.declared.actions.Action.the-variants.{Finish}
 use Rattle.selection.specs.Judging.{judgedOf, readsHeld}
 use Rattle.selection.specs.declared.judging.Judged.{Judged}
 use Rattle.selection.proofs.HeldUnread.{held-unread}
-use Rattle.loans.specs.Loans.{heldWith}
-use Rattle.loans.specs.declared.Loan.{Loan}
 use Rattle.enforcement.specs.States.{heldRoles}
 use Rattle.steps.specs.Steps.{isEvent}
-use Rattle.enforcement.specs.Steps.{Checked, passes, refuses, check, target, withHistory, put, emptied}
-use Rattle.enforcement.specs.Gate.{testsSelected, refusedNext, requestNext, passedNext, checkedNext, decide}
-use Rattle.enforcement.specs.Deciding.{isCarried, requestOf, plainNext, eventOf}
+use Rattle.enforcement.specs.Steps.{Checked, passes, refuses, check, target, withHistory, emptied}
+use Rattle.enforcement.specs.Gate.{testsSelected, refusedNext, requestNext, passedNext, checkedNext}
+use Rattle.enforcement.specs.Deciding.{decide, requestOf, plainNext, eventOf}
 use Rattle.enforcement.specs.declared.states.State.{State}
 use Rattle.steps.specs.declared.answers.Answer.the-variants.{Granted, Broken, Refused}
 use Rattle.enforcement.proofs.EndedPairs.{nothing-lost, none-ended}
-use Rattle.enforcement.proofs.Words.{has-put}
 
 -- ---- a step by its checks
 
@@ -86,20 +76,6 @@ ended-one (x ∷ l) zero roles h = rw (none-ended l) (sym (add-zero (count 32 (m
 ended-one (x ∷ l) (suc i) roles h =
     ended-one l i roles (omega arith)
     ∙ sym (ap (λ (n : ℕ). n + pairCount (endedPairs l (set l i roles))) (nothing-lost x) ∙ zero-add (pairCount (endedPairs l (set l i roles))))
-
--- ---- which roles carry a permission
-
-pub carried-same : (granted : List ℕ) (roles p : ℕ) → isCarried granted roles p ≡ any 32 (λ r. member roles r && member (permissionsOf granted r) p)
-unfolding isCarried permissionsOf
-carried-same granted roles p =
-    any-same 32 (λ r. member roles r && hasRole granted r p) (λ r. member roles r && member (permissionsOf granted r) p)
-    (λ r l. ap (λ (n : ℕ). member roles r && member n p) (sym (ap (λ (b : Bool). cond b (wordAt granted r) 0) (lt-ltb r 32 l))))
-
--- ---- a loop that looks for one that passes
-
-pub any-next : (k : ℕ) (p : ℕ → Bool) → any k p ≡ false → p k ≡ false → any (k + 1) p ≡ false
-unfolding any
-any-next k p e h = ap (λ (n : ℕ). any n p) (add-one k) ∙ ap₂ _||_ e h
 
 -- ---- a judgement, by what was handed over for the roles that users hold
 
@@ -165,7 +141,3 @@ module _ (rules : List Rule) (s after : State) (action : Action) (judged : Judge
 
 pub not-told : {asked told answer : Bool} → asked ≡ told → not asked ≡ answer → not told ≡ answer
 not-told e h = sym (ap not e) ∙ h
-
-pub carries-word : (granted : List ℕ) (r p : ℕ) → r < 32 → hasRole granted r p ≡ member (permissionsOf granted r) p
-unfolding permissionsOf
-carries-word granted r p l = ap (λ (b : Bool). member (cond b (wordAt granted r) 0) p) (sym (lt-ltb r 32 l))

@@ -19,11 +19,12 @@ use Rattle.selection.specs.Selection.{selects, selectedNumber}
 use Rattle.enforcement.specs.States.{fresh, stateAccepted}
 use Rattle.steps.specs.Steps.{actionOf}
 use Rattle.enforcement.specs.Decisions.{granted, refused}
-use Rattle.enforcement.specs.Gate.{decide, stepOf, runOf, decisionOf, namedRule, selectedOf, endedOf, comparedRun}
+use Rattle.enforcement.specs.Gate.{decideStep, stepOf, runOf, decisionOf, namedRule, selectedOf, endedOf, comparedRun}
 use Rattle.enforcement.specs.Reached.{Accepted}
 use Rattle.steps.specs.Answers.{packedOf, wordOf}
 use Rattle.enforcement.specs.Runs.{refusalOf, admissionOf, lastState, ranOf, entriesOf, entriesWritten, decisionNumber, tableNumber, plainWords, plainEntries, lastVerdict, plainState}
 use Rattle.enforcement.specs.declared.states.State.{State}
+use Rattle.steps.specs.declared.acting.Acting.the-variants.{Nobody}
 use Rattle.steps.specs.declared.steps.Step.{Step}
 use Rattle.steps.specs.declared.answers.Answer.{Answer}
 use Rattle.steps.specs.declared.answers.Answer.the-variants.{Granted, Broken, Refused}
@@ -64,7 +65,7 @@ unrefused false full h = absurd h
 
 -- stands past the end of a list of steps
 abbrev pub noStep : Step
-noStep = record { kind = 0; first = 0; second = 0; third = 0; fourth = 0; x = pos 0; y = pos 0 }
+noStep = record { kind = 0; first = 0; second = 0; third = 0; fourth = 0; x = pos 0; y = pos 0; by = Nobody }
 
 -- the state after i steps
 abbrev pub stateAt : RuleList → State → List Step → ℕ → State
@@ -127,7 +128,7 @@ module _ (list : RuleList) (s : State) (steps : List Step) (entries : List ℕ) 
       record { below = p .1; room = nltb→le m n (q .1); listed = accepted .0; stated = accepted .1 }
 
   -- what is decided from the state after i steps is what the gate answers
-  pub next-is : (i : ℕ) (x : State) (r : Next) → Accepted s → listAccepted list ≡ true → x ≡ stateAt list s steps i → r ≡ decide (rulesOf list) x (actionOf (getD steps i noStep)) → r ≡ stepOf list x (getD steps i noStep)
+  pub next-is : (i : ℕ) (x : State) (r : Next) → Accepted s → listAccepted list ≡ true → x ≡ stateAt list s steps i → r ≡ decideStep list x (getD steps i noStep) → r ≡ stepOf list x (getD steps i noStep)
   unfolding stepOf
   next-is i x r accepted listed e decided =
       let here : Accepted x = subst Accepted (sym e) (accepted-at list s steps i accepted) in

@@ -1,4 +1,4 @@
--- The causes of 20 to 28 and of 40, each in plain quantifiers over what can be observed. That the gate gives a number exactly for its cause
+-- The causes of 20 to 28, of 40 and of 50 to 54, each in plain quantifiers over what can be observed. That the gate gives a number exactly for its cause
 -- is proved in proofs/Causes.antt.
 -- Assumes nothing.
 use mathlib.Core.Path.{_≡_}
@@ -10,6 +10,13 @@ use lib.ListN.{length, getD}
 use Rattle.places.specs.Places.{positionInRange}
 use Rattle.places.specs.declared.Position.the-variants.{Unknown, Known}
 use Rattle.places.specs.declared.Point.{Point}
+use Rattle.rules.specs.declared.rights.Right.{Right}
+use Rattle.rules.specs.declared.rights.Right.the-variants.{Unstated, Permission}
+use Rattle.rules.specs.declared.rights.RightSlot.{RightSlot}
+use Rattle.steps.specs.Steps.{isAdministrative}
+use Rattle.steps.specs.declared.acting.Acting.{Acting}
+use Rattle.steps.specs.declared.acting.Acting.the-variants.{Nobody, InSession}
+use Rattle.rights.specs.Rights.{rightFor}
 use Rattle.steps.specs.declared.actions.Action.{Action}
 use Rattle.steps.specs.declared.actions.Action.the-variants.{Malformed, Assign, Withdraw, Grant, Take, Open, Activate, Deactivate, Access, Finish, Close, Move, Lost, Clock, Lend, Recall}
 use Rattle.loans.specs.Loans.{key, noLoan}
@@ -20,24 +27,33 @@ use Rattle.steps.specs.declared.steps.Step.{Step}
 
 -- ---- the causes of 20 to 28
 
--- the step's kind and numbers are those of the action, each in its range; where there is no such action the cause of 20 is there
+-- the step's kind and numbers are those of the action, each in its range
+abbrev pub Numbers : Step → Action → Type 0
+Numbers step Malformed = ⊥
+Numbers step (Assign u r) = (step .kind ≡ 0) × (step .first ≡ u) × (step .second ≡ r) × (u < 64) × (r < 32)
+Numbers step (Withdraw u r) = (step .kind ≡ 1) × (step .first ≡ u) × (step .second ≡ r) × (u < 64) × (r < 32)
+Numbers step (Grant r p) = (step .kind ≡ 2) × (step .first ≡ r) × (step .second ≡ p) × (r < 32) × (p < 32)
+Numbers step (Take r p) = (step .kind ≡ 3) × (step .first ≡ r) × (step .second ≡ p) × (r < 32) × (p < 32)
+Numbers step (Open i u) = (step .kind ≡ 4) × (step .first ≡ i) × (step .second ≡ u) × (i < 32) × (u < 64)
+Numbers step (Activate i r) = (step .kind ≡ 5) × (step .first ≡ i) × (step .second ≡ r) × (i < 32) × (r < 32)
+Numbers step (Deactivate i r) = (step .kind ≡ 6) × (step .first ≡ i) × (step .second ≡ r) × (i < 32) × (r < 32)
+Numbers step (Access i p o) = (step .kind ≡ 7) × (step .first ≡ i) × (step .second ≡ p) × (step .third ≡ o) × (i < 32) × (p < 32) × (o < 32)
+Numbers step (Finish o) = (step .kind ≡ 8) × (step .first ≡ o) × (o < 32)
+Numbers step (Close i) = (step .kind ≡ 9) × (step .first ≡ i) × (i < 32)
+Numbers step (Move i point) = (step .kind ≡ 10) × (step .first ≡ i) × (step .x ≡ point .x) × (step .y ≡ point .y) × (step .fourth ≡ point .error) × (i < 32) × (positionInRange (Known point) ≡ true)
+Numbers step (Lost i) = (step .kind ≡ 11) × (step .first ≡ i) × (i < 32)
+Numbers step (Clock t) = (step .kind ≡ 12) × (step .first ≡ t) × (t ≤ 3155759999)
+Numbers step (Lend u v r t) = (step .kind ≡ 13) × (step .first ≡ u) × (step .second ≡ v) × (step .third ≡ r) × (step .fourth ≡ t) × (u < 64) × (v < 64) × (r < 32) × (t ≤ 3155759999)
+Numbers step (Recall u v r) = (step .kind ≡ 14) × (step .first ≡ u) × (step .second ≡ v) × (step .third ≡ r) × (u < 64) × (v < 64) × (r < 32)
+
+-- 2026-05: "`by` before any other step, or before another `by`, is .. 20 handed in"; sessions are 0 to 31
+abbrev pub CanAct : Acting → Action → Type 0
+CanAct Nobody action = Unit {0}
+CanAct (InSession i) action = (i < 32) × (isAdministrative action ≡ true)
+
+-- the step is the action; where there is no such action the cause of 20 is there
 abbrev pub Writes : Step → Action → Type 0
-Writes step Malformed = ⊥
-Writes step (Assign u r) = (step .kind ≡ 0) × (step .first ≡ u) × (step .second ≡ r) × (u < 64) × (r < 32)
-Writes step (Withdraw u r) = (step .kind ≡ 1) × (step .first ≡ u) × (step .second ≡ r) × (u < 64) × (r < 32)
-Writes step (Grant r p) = (step .kind ≡ 2) × (step .first ≡ r) × (step .second ≡ p) × (r < 32) × (p < 32)
-Writes step (Take r p) = (step .kind ≡ 3) × (step .first ≡ r) × (step .second ≡ p) × (r < 32) × (p < 32)
-Writes step (Open i u) = (step .kind ≡ 4) × (step .first ≡ i) × (step .second ≡ u) × (i < 32) × (u < 64)
-Writes step (Activate i r) = (step .kind ≡ 5) × (step .first ≡ i) × (step .second ≡ r) × (i < 32) × (r < 32)
-Writes step (Deactivate i r) = (step .kind ≡ 6) × (step .first ≡ i) × (step .second ≡ r) × (i < 32) × (r < 32)
-Writes step (Access i p o) = (step .kind ≡ 7) × (step .first ≡ i) × (step .second ≡ p) × (step .third ≡ o) × (i < 32) × (p < 32) × (o < 32)
-Writes step (Finish o) = (step .kind ≡ 8) × (step .first ≡ o) × (o < 32)
-Writes step (Close i) = (step .kind ≡ 9) × (step .first ≡ i) × (i < 32)
-Writes step (Move i point) = (step .kind ≡ 10) × (step .first ≡ i) × (step .x ≡ point .x) × (step .y ≡ point .y) × (step .fourth ≡ point .error) × (i < 32) × (positionInRange (Known point) ≡ true)
-Writes step (Lost i) = (step .kind ≡ 11) × (step .first ≡ i) × (i < 32)
-Writes step (Clock t) = (step .kind ≡ 12) × (step .first ≡ t) × (t ≤ 3155759999)
-Writes step (Lend u v r t) = (step .kind ≡ 13) × (step .first ≡ u) × (step .second ≡ v) × (step .third ≡ r) × (step .fourth ≡ t) × (u < 64) × (v < 64) × (r < 32) × (t ≤ 3155759999)
-Writes step (Recall u v r) = (step .kind ≡ 14) × (step .first ≡ u) × (step .second ≡ v) × (step .third ≡ r) × (u < 64) × (v < 64) × (r < 32)
+Writes step action = Numbers step action × CanAct (step .by) action
 
 -- the table's second column: the numbers of a step's checks before 30, in their order
 abbrev pub checksOf : Action → List ℕ
@@ -101,6 +117,27 @@ pub data Cause (s : State) : Action → ℕ → Type 0 where
 abbrev pub FirstCause : State → Action → List ℕ → ℕ → Type 0
 FirstCause s action [] n = ⊥
 FirstCause s action (number ∷ rest) n = ((n ≡ number) × Cause s action number) ⊎ ((Cause s action number → ⊥) × FirstCause s action rest n)
+
+-- ---- the causes of 53 and 54, which come after 20 and before the kind's own
+
+-- 2026-05: "53 acting session not open (whenever `by` stands)"
+abbrev pub ActingClosed : State → Acting → Type 0
+ActingClosed s Nobody = ⊥
+ActingClosed s (InSession i) = isOpen s i ≡ false
+
+-- 2026-05: "the step then needs an acting session with an active role that carries permission 30"; "A step of a kind with a right and no `by`
+-- counts as lacking it."
+abbrev pub RightLacking : State → Acting → Right → Type 0
+RightLacking s by Unstated = ⊥
+RightLacking s Nobody (Permission p) = Unit {0}
+RightLacking s (InSession i) (Permission p) = (r : ℕ) → r < 32 → activeRole s i r ≡ true → carries s r p ≡ true → ⊥
+
+-- 2026-05: "both after 20, in that order": of a step of the six kinds, the first cause of all
+abbrev pub FirstOfAll : List RightSlot → State → Acting → Action → ℕ → Type 0
+FirstOfAll rights s by action n =
+    ((n ≡ 53) × ActingClosed s by)
+    ⊎ ((ActingClosed s by → ⊥)
+    × (((n ≡ 54) × RightLacking s by (rightFor rights action)) ⊎ ((RightLacking s by (rightFor rights action) → ⊥) × FirstCause s action (checksOf action) n)))
 
 -- ---- the cause of 40 in a state
 

@@ -9,6 +9,7 @@ use lib.ListN.{length, getD}
 use Rattle.sets.specs.Sets.{count}
 use Rattle.calendar.specs.Terms.{termHolds}
 use Rattle.places.specs.Places.{sideHolds}
+use Rattle.rules.specs.Acceptance.{rulesOf}
 use Rattle.rules.specs.Families.{hasRole}
 use Rattle.rules.specs.declared.families.Rule.{Rule}
 use Rattle.rules.specs.declared.families.Rule.the-variants.{Prerequisite, MaxUsers, MaxRoles, MaxPermissions, MaxActive, StaticSeparation, DynamicSeparation, Dependency, TimeContext, LocationContext, HistorySeparation, BindingOfDuty}
@@ -19,7 +20,7 @@ use Rattle.steps.specs.declared.actions.Action.the-variants.{Malformed, Assign,
 use Rattle.steps.specs.declared.steps.Step.{Step}
 use Rattle.loans.specs.declared.Loan.{Loan}
 use Rattle.enforcement.specs.States.{fresh, assignedRole, loansOf, holdsRole, carries, isOpen, userOf, positionOf, activeRole, did}
-use Rattle.enforcement.specs.Steps.{passes, check, target, withActive}
+use Rattle.enforcement.specs.Steps.{passes, checkStep, target, withActive}
 use Rattle.enforcement.specs.Decisions.{granted, refused}
 use Rattle.enforcement.specs.Gate.{runOf, decisionOf, namedRule}
 use Rattle.enforcement.specs.declared.states.State.{State}
@@ -86,10 +87,10 @@ SameDone s t = (o p u : ℕ) → did t o p u ≡ did s o p u
 -- ---- "else it takes the target"
 
 -- what a granted step hands back is its target; of an event's target the active roles may be fewer
-pub record TakesTarget (s : State) (action : Action) (after : State) : Type 0 where
-  pub passed : check s action ≡ passes
-  pub requested : isEvent action ≡ false → after ≡ target s action
-  pub changed : after ≡ withActive (target s action) (after .active)
+pub record TakesTarget (list : RuleList) (s : State) (step : Step) (after : State) : Type 0 where
+  pub passed : checkStep list s step ≡ passes
+  pub requested : isEvent (actionOf step) ≡ false → after ≡ target s (actionOf step)
+  pub changed : after ≡ withActive (target s (actionOf step)) (after .active)
 
 -- ---- "over every list of steps from a fresh state"
 
@@ -157,7 +158,7 @@ LowestIs rules s n =
     (filler : Rule) → (n < length rules) × (Holds (getD rules n filler) s → ⊥) × ((k : ℕ) → k < n → Holds (getD rules k filler) s)
 
 -- a 30 names the lowest rule that is broken in the target, and a request with such a rule is refused by it
-pub record NamesLowest (rules : List Rule) (s : State) (step : Step) (given : Next) : Type 0 where
-  pub named : decisionOf (given .answer) ≡ refused 30 → (n : ℕ) × (namedRule (given .answer) ≡ suc n) × LowestIs rules (target s (actionOf step)) n
-  pub refusing : check s (actionOf step) ≡ passes → isEvent (actionOf step) ≡ false → (n : ℕ) → LowestIs rules (target s (actionOf step)) n →
+pub record NamesLowest (list : RuleList) (s : State) (step : Step) (given : Next) : Type 0 where
+  pub named : decisionOf (given .answer) ≡ refused 30 → (n : ℕ) × (namedRule (given .answer) ≡ suc n) × LowestIs (rulesOf list) (target s (actionOf step)) n
+  pub refusing : checkStep list s step ≡ passes → isEvent (actionOf step) ≡ false → (n : ℕ) → LowestIs (rulesOf list) (target s (actionOf step)) n →
       (decisionOf (given .answer) ≡ refused 30) × (namedRule (given .answer) ≡ suc n)

@@ -7,7 +7,7 @@ use mathlib.Core.Bool.{Bool, true, not, cond, _&&_, _||_}
 use mathlib.Core.List.{List, []}
 use lib.Dec.{eqb, ltb}
 use lib.ListN.{length, set}
-use Rattle.sets.specs.Sets.{member, any, oneIf}
+use Rattle.sets.specs.Sets.{oneIf}
 use Rattle.places.specs.Places.{sideHolds}
 use Rattle.places.specs.declared.Position.{Position}
 use Rattle.places.specs.declared.Side.{Side}
@@ -23,8 +23,8 @@ use Rattle.loans.specs.Loans.{noLoans, stored, inserted}
 use Rattle.loans.specs.declared.Loan.{Loan}
 use Rattle.loans.specs.declared.Loans.{Loans}
 use Rattle.enforcement.specs.States.{loansOf, isOpen, activeRole}
-use Rattle.enforcement.specs.Steps.{withAssigned, withLoans, withActive, placed, unheldClosed}
-use Rattle.enforcement.specs.Gate.{testsSelected, refusedNext, requestNext}
+use Rattle.enforcement.specs.Steps.{check, withAssigned, withLoans, withActive, placed, unheldClosed}
+use Rattle.enforcement.specs.Gate.{testsSelected, refusedNext, requestNext, checkedNext}
 use Rattle.enforcement.specs.Rounds.{keeps, stays, remaining}
 use Rattle.enforcement.specs.declared.states.State.{State}
 use Rattle.enforcement.specs.declared.configurations.Configuration.{Configuration}
@@ -76,6 +76,10 @@ pub record RuledOut (n : ℕ) (out : List ℕ) (sessions : List Session) (active
   pub means : (i q : ℕ) → i < 32 → q < 32 → hasRole more i q ≡ (hasRole out i q || (ltb i n && (eqb r q && (hasRole active i r && not (sideHolds side (sessionAt sessions i .position))))))
 
 -- ---- a step
+
+-- a step by its kind's own checks, where neither 53 nor 54 refuses it
+unfoldable pub decide : List Rule → State → Action → Next
+decide rules s action = checkedNext (check s action) rules s action
 
 -- a state but for its history, and a state by that and its history
 abbrev pub configurationOf : State → Configuration
@@ -131,10 +135,6 @@ eventOf rules before s action =
 -- the same for an event that itself closes the roles that are not held
 abbrev pub heldEventOf : List Rule → List ℕ → State → Action → Next
 heldEventOf rules before s action = eventOf rules before (unheldClosed s) action
-
--- one of the roles of a set carries the permission
-unfoldable pub isCarried : List ℕ → ℕ → ℕ → Bool
-isCarried granted roles p = any 32 (λ r. member roles r && hasRole granted r p)
 
 -- a step that selects no rule and ends nothing
 abbrev pub plainNext : State → Next

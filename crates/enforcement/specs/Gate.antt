@@ -14,7 +14,7 @@ use Rattle.selection.specs.Selection.{selects, selectedNumber}
 use Rattle.steps.specs.declared.actions.Action.{Action}
 use Rattle.enforcement.specs.States.{ruleHolds, stateAccepted}
 use Rattle.steps.specs.Steps.{actionOf, isEvent}
-use Rattle.enforcement.specs.Steps.{Checked, passes, refuses, check, target, withActive}
+use Rattle.enforcement.specs.Steps.{Checked, passes, refuses, checkStep, target, withActive}
 use Rattle.enforcement.specs.Decisions.{Decision, granted, refused, Verdict}
 use Rattle.enforcement.specs.Rounds.{remaining}
 use Rattle.enforcement.specs.declared.states.State.{State}
@@ -52,12 +52,12 @@ unfoldable pub checkedNext : Checked → List Rule → State → Action → Next
 checkedNext passes rules s action = passedNext (isEvent action) rules s action
 checkedNext (refuses number) rules s action = refusedNext s (Refused number)
 
-unfoldable pub decide : List Rule → State → Action → Next
-decide rules s action = checkedNext (check s action) rules s action
+unfoldable pub decideStep : RuleList → State → Step → Next
+decideStep list s step = checkedNext (checkStep list s step) (rulesOf list) s (actionOf step)
 
 -- "Checks run in the order given, 40 and 20 before all."
 unfoldable pub stepOf : RuleList → State → Step → Next
-stepOf list s step = cond (listAccepted list && stateAccepted s) (decide (rulesOf list) s (actionOf step)) (refusedNext s (Refused 40))
+stepOf list s step = cond (listAccepted list && stateAccepted s) (decideStep list s step) (refusedNext s (Refused 40))
 
 -- "a gate's next step gets the state that its last one handed back"
 unfoldable pub runOf : RuleList → State → List Step → List Next

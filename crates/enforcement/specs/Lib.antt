@@ -11,3 +11,4 @@ pub mod Causes
 pub mod Deciding
 pub mod Runs
 pub mod Batches
+pub mod Safety

@@ -7,8 +7,9 @@ use mathlib.Core.Bool.{Bool, true, false, not, cond, _&&_, _||_}
 use mathlib.Core.List.{List, [], _∷_, _++_}
 use lib.Dec.{eqb}
 use Rattle.sets.specs.Sets.{subset}
-use Rattle.rules.specs.Acceptance.{every}
+use Rattle.rules.specs.Acceptance.{every, rulesOf}
 use Rattle.rules.specs.declared.families.Rule.{Rule}
+use Rattle.rules.specs.declared.lists.RuleList.{RuleList}
 use Rattle.steps.specs.declared.lowest.Lowest.{Lowest}
 use Rattle.steps.specs.declared.lowest.Lowest.the-variants.{Unbroken, BrokenAt}
 use Rattle.steps.specs.Lowest.{lowest}
@@ -16,7 +17,7 @@ use Rattle.steps.specs.Pairs.{endedPairs, pairCount}
 use Rattle.steps.specs.declared.actions.Action.{Action}
 use Rattle.enforcement.specs.States.{ruleHolds}
 use Rattle.steps.specs.Steps.{actionOf, isEvent}
-use Rattle.enforcement.specs.Steps.{Checked, passes, refuses, check, target, withActive}
+use Rattle.enforcement.specs.Steps.{Checked, passes, refuses, checkStep, target, withActive}
 use Rattle.enforcement.specs.Decisions.{Largest, Decision, granted, refused, Verdict}
 use Rattle.enforcement.specs.declared.states.State.{State}
 use Rattle.steps.specs.declared.steps.Step.{Step}
@@ -42,21 +43,21 @@ verdict before decision rule after =
 
 -- ---- as a relation
 
-pub data Plain (rules : List Rule) (s : State) (action : Action) : Verdict → Type 0 where
-  -- "It makes the same checks before 30; if one refuses, it keeps the old state."
-  refusing : (number : ℕ) → check s action ≡ refuses number → Plain rules s action (verdict s (refused number) 0 s)
+pub data Plain (list : RuleList) (s : State) (step : Step) : Verdict → Type 0 where
+  -- "It makes the same checks before 30; if one refuses, it keeps the old state."; 2026-05, of 53 and 54: "the plain gate checks them too"
+  refusing : (number : ℕ) → checkStep list s step ≡ refuses number → Plain list s step (verdict s (refused number) 0 s)
   -- "For a request .. it tests every rule over the whole target; if any is broken it answers 30 with the lowest and keeps the old state"
-  breaking : (rule : ℕ) → check s action ≡ passes → isEvent action ≡ false → lowestBroken rules (target s action) ≡ BrokenAt rule → Plain rules s action (verdict s (refused 30) rule s)
+  breaking : (rule : ℕ) → checkStep list s step ≡ passes → isEvent (actionOf step) ≡ false → lowestBroken (rulesOf list) (target s (actionOf step)) ≡ BrokenAt rule → Plain list s step (verdict s (refused 30) rule s)
   -- "else it takes the target"
-  taking : check s action ≡ passes → isEvent action ≡ false → lowestBroken rules (target s action) ≡ Unbroken → Plain rules s action (verdict s granted 0 (target s action))
+  taking : checkStep list s step ≡ passes → isEvent (actionOf step) ≡ false → lowestBroken (rulesOf list) (target s (actionOf step)) ≡ Unbroken → Plain list s step (verdict s granted 0 (target s (actionOf step)))
   -- "For an event it keeps the largest part of the target's active pairs under which every rule holds"
-  ending : (l : List ℕ) → check s action ≡ passes → isEvent action ≡ true → Largest (obeys rules) (target s action) l → Plain rules s action (verdict s granted 0 (withActive (target s action) l))
+  ending : (l : List ℕ) → checkStep list s step ≡ passes → isEvent (actionOf step) ≡ true → Largest (obeys (rulesOf list)) (target s (actionOf step)) l → Plain list s step (verdict s granted 0 (withActive (target s (actionOf step)) l))
 
 -- "a gate's next step gets the state that its last one handed back"
-pub data PlainRun (rules : List Rule) : State → List Step → List Verdict → Type 0 where
-  done : {s : State} → PlainRun rules s [] []
+pub data PlainRun (list : RuleList) : State → List Step → List Verdict → Type 0 where
+  done : {s : State} → PlainRun list s [] []
   next : {s : State} {step : Step} {steps : List Step} {v : Verdict} {verdicts : List Verdict} →
-      Plain rules s (actionOf step) v → PlainRun rules (v .state) steps verdicts → PlainRun rules s (step ∷ steps) (v ∷ verdicts)
+      Plain list s step v → PlainRun list (v .state) steps verdicts → PlainRun list s (step ∷ steps) (v ∷ verdicts)
 
 -- ---- as a function: at an event it goes through all parts
 
@@ -118,9 +119,9 @@ unfoldable pub plainChecked : Checked → List Rule → State → Action → Ver
 plainChecked passes rules s action = plainPassed (isEvent action) rules s (target s action)
 plainChecked (refuses number) rules s action = verdict s (refused number) 0 s
 
-unfoldable pub plainStep : List Rule → State → Action → Verdict
-plainStep rules s action = plainChecked (check s action) rules s action
+unfoldable pub plainStep : RuleList → State → Step → Verdict
+plainStep list s step = plainChecked (checkStep list s step) (rulesOf list) s (actionOf step)
 
-unfoldable pub plainRun : List Rule → State → List Step → List Verdict
-plainRun rules s [] = []
-plainRun rules s (step ∷ steps) = plainStep rules s (actionOf step) ∷ plainRun rules (plainStep rules s (actionOf step) .state) steps
+unfoldable pub plainRun : RuleList → State → List Step → List Verdict
+plainRun list s [] = []
+plainRun list s (step ∷ steps) = plainStep list s step ∷ plainRun list (plainStep list s step .state) steps

@@ -73,14 +73,14 @@ plainWords rules (step ∷ steps) (v ∷ verdicts) =
     packedOf (decisionNumber (v .decision)) (v .rule) (tableNumber rules step (v .decision)) (v .endedNumber) ∷ plainWords rules steps verdicts
 
 abbrev pub plainEntries : RuleList → List Step → List ℕ
-plainEntries list steps = plainWords (rulesOf list) steps (plainRun (rulesOf list) fresh steps)
+plainEntries list steps = plainWords (rulesOf list) steps (plainRun list fresh steps)
 
 unfoldable pub lastVerdict : State → List Verdict → State
 lastVerdict s [] = s
 lastVerdict s (v ∷ verdicts) = lastVerdict (v .state) verdicts
 
 abbrev pub plainState : RuleList → List Step → State
-plainState list steps = lastVerdict fresh (plainRun (rulesOf list) fresh steps)
+plainState list steps = lastVerdict fresh (plainRun list fresh steps)
 
 -- ---- what `run` promises
 

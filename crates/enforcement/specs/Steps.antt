@@ -1,7 +1,7 @@
 -- Document 01, 'State and steps': a step's checks in the table's order, and its target.
 -- Assumes nothing.
 use Prim.Native.Nat.{ℕ, zero, suc, _+_, _*_}
-use mathlib.Core.Bool.{Bool, true, false, not, _&&_, _||_}
+use mathlib.Core.Bool.{Bool, true, false, not, cond, _&&_, _||_}
 use mathlib.Core.List.{List}
 use lib.Dec.{ltb, leb}
 use lib.ListN.{set}
@@ -9,10 +9,16 @@ use Rattle.sets.specs.Sets.{with, without, any}
 use Rattle.places.specs.declared.Position.{Position}
 use Rattle.places.specs.declared.Position.the-variants.{Unknown, Known}
 use Rattle.rules.specs.Families.{wordAt, closedSession, isActiveFor}
+use Rattle.rules.specs.declared.rights.RightSlot.{RightSlot}
+use Rattle.rules.specs.declared.lists.RuleList.{RuleList}
 use Rattle.rules.specs.declared.sessions.Session.{Session}
+use Rattle.steps.specs.Steps.{isAdministrative, actionOf}
+use Rattle.steps.specs.declared.acting.Acting.{Acting}
+use Rattle.steps.specs.declared.steps.Step.{Step}
 use Rattle.steps.specs.declared.actions.Action.{Action}
 use Rattle.steps.specs.declared.actions.Action.the-variants.{Malformed, Assign, Withdraw, Grant, Take, Open, Activate, Deactivate, Access, Finish, Close, Move, Lost, Clock, Lend, Recall}
 use Rattle.steps.specs.Pairs.{sifted}
+use Rattle.rights.specs.Rights.{rightFor, actsClosed, lacksRight}
 use Rattle.loans.specs.Loans.{someLoan, keptLoans, isNamed, runsAt, loanOf, stored, inserted}
 use Rattle.loans.specs.declared.Loan.{Loan}
 use Rattle.loans.specs.declared.Loans.{Loans}
@@ -54,6 +60,22 @@ check s (Lend u v r t) =
     (refuseIf (holdsRole s v r) 24 (refuseIf (leb t (s .time)) 52 (refuseIf (leb 32 (s .loans .count)) 51 passes)))
 -- 2026-01: "`recall u v r` ends one early and is 25 where there is none"
 check s (Recall u v r) = refuseIf (not (someLoan (isNamed u v r) (loansOf s))) 25 passes
+
+-- 2026-05: "an acting session with an active role that carries permission 30"
+abbrev pub rightLacking : List RightSlot → State → Acting → Action → Bool
+rightLacking rights s by action = lacksRight (rightFor rights action) by (s .active) (s .granted)
+
+-- 2026-05: "53 acting session not open (whenever `by` stands), 54 right lacking; both after 20, in that order". Of any other kind `by` is 20,
+-- and none has a right.
+unfoldable pub checkBy : List RightSlot → State → Acting → Action → Checked
+checkBy rights s by action =
+    cond (isAdministrative action)
+    (refuseIf (actsClosed (s .sessions) by) 53 (refuseIf (rightLacking rights s by action) 54 (check s action)))
+    (check s action)
+
+-- the checks of a step as it is handed in
+abbrev pub checkStep : RuleList → State → Step → Checked
+checkStep list s step = checkBy (list .rights) s (step .by) (actionOf step)
 
 -- ---- "the target: the state as if allowed"
 

@@ -2,12 +2,12 @@
 ghost use mathlib.Core.Path.{_≡_};
 ghost use Prim.Native.Nat.{_≤_};
 ghost use lib.ListN.{length};
-ghost use Rattle.rules.specs.Acceptance.{rulesOf};
-ghost use Rattle.steps.specs.Steps.{actionOf};
-ghost use Rattle.enforcement.specs.Gate.{decide};
+ghost use Rattle.enforcement.specs.Gate.{decideStep};
 ghost use Rattle.enforcement.specs.Deciding.{stateWith, nextOf, answered};
 use crate::states::State;
 use loans::Loans;
+use rights::is_bound;
+use rights::refusal;
 use rules::RuleList;
 use rules::Session;
 use steps::Action;
@@ -39,9 +39,21 @@ impl Configuration {
         history: &mut [u64; 1024],
     ) -> NextConfiguration
         requires { ⌜ (list .length ≤ 128) × (length (now history) ≡ 1024) ⌝ }
-        ensures { λ r. ⌜ nextOf r (now (history .exit)) ≡ decide (rulesOf list) (stateWith self (now (history .entry))) (actionOf step) ⌝ }
+        ensures { λ r. ⌜ nextOf r (now (history .exit)) ≡ decideStep list (stateWith self (now (history .entry))) step ⌝ }
     {
-        match step.action() {
+        let action = step.action();
+        let by = step.by;
+        let rights = list.rights;
+        if is_bound(rights, by, action) {
+            let sessions = self.sessions;
+            let active = self.active;
+            let granted = self.granted;
+            let number = refusal(rights, by, action, sessions, active, granted);
+            if number != 0 {
+                return self.refused(number);
+            }
+        }
+        match action {
             Action::Malformed => self.refused(20),
             Action::Assign { user, role } => self.assign(list, user, role, history),
             Action::Withdraw { user, role } => self.withdraw(list, user, role, history),

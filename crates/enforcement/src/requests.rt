@@ -8,14 +8,14 @@ ghost use lib.ListN.{length};
 ghost use Rattle.rules.specs.Acceptance.{rulesOf};
 ghost use Rattle.rules.specs.Families.{isActiveFor};
 ghost use Rattle.selection.specs.Judging.{readsHeld};
-ghost use Rattle.enforcement.specs.Gate.{decide};
-ghost use Rattle.enforcement.specs.Deciding.{stateWith, nextOf, isCarried, withUserRoles, withSessionRoles, withLoan, requestBy};
+ghost use Rattle.enforcement.specs.Deciding.{decide, stateWith, nextOf, withUserRoles, withSessionRoles, withLoan, requestBy};
 use crate::configurations::Configuration;
 use crate::configurations::NextConfiguration;
 use loans::Loan;
 use loans::Which;
 use loans::has_ended;
 use places::Position;
+use rights::is_carried;
 use rules::RuleList;
 use rules::Session;
 use selection::judge;
@@ -439,21 +439,5 @@ fn is_active_for(sessions: [Session; 32], active: &[u32; 32], user: usize, role:
             break 'sessions true;
         }
         i += 1;
-    }
-}
-
-// One of the roles carries the permission.
-fn is_carried(granted: &[u32; 32], roles: u32, permission: usize) -> bool
-    ensures { λ r. ⌜ r ≡ isCarried (now (granted .entry)) roles permission ⌝ }
-{
-    let mut role: usize = 0;
-    'roles: loop {
-        if role == 32 {
-            break 'roles false;
-        }
-        if word32::member(roles, role) & word32::member(granted[role], permission) {
-            break 'roles true;
-        }
-        role += 1;
     }
 }

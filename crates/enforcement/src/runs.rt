@@ -2,6 +2,7 @@
 ghost use mathlib.Core.Path.{_≡_};
 ghost use Rattle.steps.specs.Answers.{packedOf, wordOf};
 ghost use Rattle.enforcement.specs.Runs.{admissionOf, RunGiven, RunPlain};
+ghost use Rattle.enforcement.specs.Safety.{RunSafe};
 use crate::acceptance::is_accepted;
 use crate::configurations::NextConfiguration;
 use crate::states::State;
@@ -22,10 +23,12 @@ pub struct Admission {
 }
 
 // The steps run in their order, each from the state that the last one handed back. The answer to step i goes to entry i as one number;
-// entries beyond the steps stay. 40, then 18, refuse the list as a whole: then the state and every entry stay.
+// entries beyond the steps stay. 40, then 18, refuse the list as a whole: then the state and every entry stay. Where all six kinds have rights
+// and a user holds none of them, his own steps change nobody's roles and no role's permissions.
 pub fn run(list: RuleList, state: State, steps: &[Step], answers: &mut [u64]) -> Ran
     ensures given { λ r. ⌜ RunGiven list state (now (steps .entry)) (now (answers .entry)) r (now (answers .exit)) ⌝ }
     ensures plain { λ r. ⌜ RunPlain list state (now (steps .entry)) (now (answers .entry)) r (now (answers .exit)) ⌝ }
+    ensures safe { λ r. ⌜ RunSafe list state (now (steps .entry)) r ⌝ }
 {
     let admitted = admit(list, state, steps.len(), answers.len());
     let count = admitted.count;

@@ -1,8 +1,7 @@
 // The state: who is assigned what, which role carries which permission, the loans, the sessions, and who did what on which object.
 ghost use mathlib.Core.Path.{_≡_};
 ghost use mathlib.Core.Bool.{true};
-ghost use Rattle.rules.specs.Acceptance.{rulesOf, listAccepted};
-ghost use Rattle.steps.specs.Steps.{actionOf};
+ghost use Rattle.rules.specs.Acceptance.{listAccepted};
 ghost use Rattle.enforcement.specs.States.{fresh, stateAccepted};
 ghost use Rattle.enforcement.specs.Narrow.{Narrow};
 ghost use Rattle.enforcement.specs.Gate.{refusedNext, stepOf};
@@ -60,7 +59,7 @@ impl State {
     // selected rules alone.
     pub fn step(self, list: RuleList, step: Step) -> Next
         ensures given { λ r. ⌜ r ≡ stepOf list self step ⌝ }
-        ensures narrow { λ r. ⌜ (listAccepted list ≡ true → stateAccepted self ≡ true → Narrow (rulesOf list) self (actionOf step) r) ⌝ }
+        ensures narrow { λ r. ⌜ (listAccepted list ≡ true → stateAccepted self ≡ true → Narrow list self step r) ⌝ }
     {
         if !list.is_accepted() {
             return self.refused(40);

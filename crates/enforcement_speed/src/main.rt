@@ -13,9 +13,12 @@ use enforcement::State;
 use loans::Loan;
 use places::Shape;
 use places::Side;
+use rules::Right;
+use rules::RightSlot;
 use rules::Rule;
 use rules::RuleList;
 use rules::Slot;
+use steps::Acting;
 use steps::Step;
 
 // The state, the generator's seed and the checksum after some batches.
@@ -255,6 +258,7 @@ fn batch_of(which: u64, number: u64, seed: u64) -> Batch
         fourth: 0,
         x: 0,
         y: 0,
+        by: Acting::Nobody,
     };
     let mut batch = Batch {
         steps: [none; 256],
@@ -289,6 +293,7 @@ fn step_of(which: u64, index: u64, a: u64, b: u64, c: u64, d: u64) -> Step
         fourth: 0,
         x: coordinate(part(c)),
         y: coordinate(part(d)),
+        by: Acting::Nobody,
     }
 }
 
@@ -305,6 +310,7 @@ fn loan_step(kind: u64, index: u64, b: u64, c: u64, d: u64) -> Step
         fourth: index * 1000 + b % 1000000,
         x: coordinate(c),
         y: coordinate(d),
+        by: Acting::Nobody,
     }
 }
 
@@ -421,7 +427,13 @@ fn rules_of(which: u64) -> RuleList
         drawn.slots[i] = Slot { rule };
     }
     let slots = drawn.slots;
-    RuleList { slots, length }
+    RuleList {
+        slots,
+        length,
+        rights: [RightSlot {
+            right: Right::Unstated,
+        }; 6],
+    }
 }
 
 fn count_of(which: u64) -> usize {

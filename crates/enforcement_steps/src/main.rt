@@ -1,5 +1,5 @@
 // Each kind of step granted, and refused with each of its numbers, on fresh states and on handed-in ones (document 01, 'State and steps' and
-// 'Refused'; requests 2026-01 and 2026-04). The file stdin has the cases and says how they are written. The file stdout has what each must give: it was
+// 'Refused'; requests 2026-01, 2026-04 and 2026-05). The file stdin has the cases and says how they are written. The file stdout has what each must give: it was
 // worked out from the documents and not taken from a run.
 mod fields;
 mod numbers;
@@ -17,8 +17,8 @@ struct Given {
     state: State,
 }
 
-// The lines besides steps and rules, numbered from 0: the state's are 0 to 12 and 19, the list's 13 to 18.
-const LINES: [u8; 364] = *b"\
+// The lines besides steps and rules, numbered from 0: the state's are 0 to 12 and 19, the list's 13 to 18 and 20.
+const LINES: [u8; 374] = *b"\
 fresh\n\
 state (now ?)\n\
 state (each assigned ?)\n\
@@ -38,9 +38,10 @@ slot ? (during ? (months ? ?))\n\
 slot ? (during ? (dates ? ?))\n\
 slot ? (at ? (inside (box _ _ _ _)))\n\
 no rules\n\
-state (place ? _ _ ?)\n";
+state (place ? _ _ ?)\n\
+right ? ?\n";
 
-const LINE_COUNT: usize = 20;
+const LINE_COUNT: usize = 21;
 
 fn main() {
     let mut input = io::large_buffer();
@@ -115,6 +116,7 @@ fn other(given: Given, text: &[u8], line: &[u8]) -> Given {
         b'#' | b'\n' => given,
         b'(' => ruled(given, text),
         b'k' => decided(given, numbers::step_of(line)),
+        b'b' => decided(given, numbers::step_by(line)),
         b'l' => with_length(given, numbers::number_after(1, line)),
         _ => misplaced(given),
     }

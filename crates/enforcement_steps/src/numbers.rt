@@ -1,16 +1,31 @@
 // A step by its numbers, of which each may be any that its field holds.
+ghost use Prim.Native.Nat.{_≤_};
+use steps::Acting;
 use steps::Step;
 
 // kind, then first, second, third, x, y and fourth; one that is left out is 0
 pub(crate) fn step_of(line: &[u8]) -> Step {
+    step_from(line, 1, Acting::Nobody)
+}
+
+// by and the acting session, then the same
+pub(crate) fn step_by(line: &[u8]) -> Step {
+    step_from(line, 3, Acting::InSession(number_after(1, line)))
+}
+
+// The kind stands after so many spaces.
+fn step_from(line: &[u8], spaces: u64, by: Acting) -> Step
+    requires { ⌜ spaces ≤ 3 ⌝ }
+{
     Step {
-        kind: number_after(1, line),
-        first: number_after(2, line),
-        second: number_after(3, line),
-        third: number_after(4, line),
-        fourth: number_after(7, line),
-        x: signed(number_after(5, line)),
-        y: signed(number_after(6, line)),
+        kind: number_after(spaces, line),
+        first: number_after(spaces + 1, line),
+        second: number_after(spaces + 2, line),
+        third: number_after(spaces + 3, line),
+        fourth: number_after(spaces + 6, line),
+        x: signed(number_after(spaces + 4, line)),
+        y: signed(number_after(spaces + 5, line)),
+        by,
     }
 }
 

@@ -1,7 +1,9 @@
-// A rule in a slot of the list, whatever its numbers: those that no text can hold are refused with 40.
+// A rule in a slot of the list, or a right, whatever its numbers: those that no text can hold are refused with 40.
 use calendar::Term;
 use places::Shape;
 use places::Side;
+use rules::Right;
+use rules::RightSlot;
 use rules::Rule;
 use rules::RuleList;
 use rules::Slot;
@@ -11,6 +13,7 @@ pub(crate) fn with_line(list: RuleList, form: usize, values: &[u64; 6]) -> RuleL
     match form {
         13..=17 => with_rule(list, values[0] as usize, rule_of(form, values)),
         18 => no_rules(),
+        20 => with_right(list, values[0] as usize, narrow(values[1])),
         _ => list,
     }
 }
@@ -22,7 +25,21 @@ pub(crate) fn no_rules() -> RuleList {
             rule: Rule::MaxRoles { limit: 32 },
         }; 128],
         length: 0,
+        rights: [RightSlot {
+            right: Right::Unstated,
+        }; 6],
     }
+}
+
+// The right of a kind, counted from 0 in the order of right lines.
+fn with_right(mut list: RuleList, kind: usize, permission: u32) -> RuleList {
+    if RuleList::RIGHTS <= kind {
+        return list;
+    }
+    list.rights[kind] = RightSlot {
+        right: Right::Permission(permission),
+    };
+    list
 }
 
 // Rule n stands in slot n - 1; the list's length stays.

@@ -58,6 +58,7 @@ use lib.ListN.{drop as dropped}
 use Rattle.rules.specs.Acceptance.{listAccepted}
 use Rattle.rules.specs.declared.lists.RuleList.{RuleList}
 use Rattle.enforcement.specs.States.{fresh}
+use Rattle.enforcement.specs.Safety.{RunSafe}
 use Rattle.enforcement.specs.Runs.{ranOf, entriesWritten, plainEntries, plainState}
 use Rattle.steps.specs.declared.steps.Step.{Step}
 use Rattle.enforcement.specs.declared.states.State.{State}
@@ -230,8 +231,8 @@ module _ {M : Type 1} (𝓤 : URA M) (H : Heap 𝓤) (A : Atoms 𝓤) (W : Given
         -- [what `run` asks; true; `lent`; _9; …]
         calls-at ! fm (Run 𝓤 H A mem run) known (to-run α l₆ ε) (and-then ! (load ! (from ! (stop !)) (look ! 16 refl)) (and-then ! (load ! (from ! (stop !)) (look ! 14 refl)) (and-then ! (load ! (from ! (stop !)) (look ! 7 refl)) (and-then ! (load ! (from ! (stop !)) (look ! 3 refl)) (no-more !))))) (λ u.
         use1 W (later (some (λ (r : Ran). ((‵ (flft (α ∷ []) fullShare) ⊛ ‵ (flft κ q) ⊛ ‵ ftrue) ⊛ ‵ (R.the-row .own r (u ∷ []))) ⊛ raw (ensured 𝓤 H A run′.ended (run′.clauses 𝓤 H A mem run) (α ∷ [], (κ, tt)) (list, (st, (lent-steps α l₆ ε, (answers, tt)))) tt r)))) (id⊢ 𝓤 _) $ await ! tt $ pick ! (λ r.
-        split ! $ move ! (1 ∷ []) $ use1 W (some (λ (zs : Unit {0} × (Unit {0} × (Unit {0} × (List ℕ × Unit {0})))). ‵ (lasts run′.ended (α ∷ [], (κ, tt)) (list, (st, (lent-steps α l₆ ε, (answers, tt)))) zs) ⊛ raw (sep 𝓤 (fact 𝓤 (Given-by list st first ys r (zs .1 .1 .1 .0))) (fact 𝓤 (Plain-by list st first ys r (zs .1 .1 .1 .0)))))) (id⊢ 𝓤 _) $ pick ! (λ zs.
-        split ! $ move ! (1 ∷ []) $ use1 W (raw (fact 𝓤 (Given-by list st first ys r (zs .1 .1 .1 .0)))) (fst∗ 𝓤 (fact 𝓤 (Given-by list st first ys r (zs .1 .1 .1 .0))) (fact 𝓤 (Plain-by list st first ys r (zs .1 .1 .1 .0)))) $
+        split ! $ move ! (1 ∷ []) $ use1 W (some (λ (zs : Unit {0} × (Unit {0} × (Unit {0} × (List ℕ × Unit {0})))). ‵ (lasts run′.ended (α ∷ [], (κ, tt)) (list, (st, (lent-steps α l₆ ε, (answers, tt)))) zs) ⊛ raw (sep 𝓤 (fact 𝓤 (Given-by list st first ys r (zs .1 .1 .1 .0))) (sep 𝓤 (fact 𝓤 (Plain-by list st first ys r (zs .1 .1 .1 .0))) (fact 𝓤 (RunSafe list st first r)))))) (id⊢ 𝓤 _) $ pick ! (λ zs.
+        split ! $ move ! (1 ∷ []) $ use1 W (raw (fact 𝓤 (Given-by list st first ys r (zs .1 .1 .1 .0)))) (fst∗ 𝓤 (fact 𝓤 (Given-by list st first ys r (zs .1 .1 .1 .0))) (sep 𝓤 (fact 𝓤 (Plain-by list st first ys r (zs .1 .1 .1 .0))) (fact 𝓤 (RunSafe list st first r)))) $
         heard ! (Given-by list st first ys r (zs .1 .1 .1 .0)) (λ e. fsplit ! $ drop ! $ fsplit ! $ drop ! $ fsplit ! $ drop ! $ fsplit ! $ fsplit ! $ move ! (1 ∷ []) $ feqL ! (λ len.
         -- [the last entries; true; the tokens and the result; true; `lent`; _9; …]
         move ! (2 ∷ []) $ split ! $ split ! $ move ! (2 ∷ []) $ peeks ! R.the-row (Is R.the-row) (shows 𝓤 H A R.the-row) r (u ∷ []) (λ is.

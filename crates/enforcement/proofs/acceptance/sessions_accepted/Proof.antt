@@ -7,10 +7,10 @@ use mathlib.Core.Bool.{Bool, true}
 use mathlib.Core.List.{List}
 use Prim.Native.Nat.{ℕ, _≤_, _-_}
 use Rattle.sets.specs.Sets.{all}
+use Rattle.sets.proofs.Bounded.{all-next, all-stop}
 use Rattle.rules.specs.Families.{wordAt, sessionAt}
 use Rattle.rules.specs.declared.sessions.Session.{Session}
 use Rattle.enforcement.specs.States.{sessionAccepted}
-use Rattle.enforcement.proofs.Passing.{all-next, all-stop}
 use borrow.Author.Needs.{needs}
 use Rattle.enforcement.proofs.acceptance.sessions_accepted.Statement.{statement}
 use Rattle.enforcement.proofs.acceptance.sessions_accepted.Tie as tie

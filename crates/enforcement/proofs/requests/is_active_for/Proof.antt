@@ -7,9 +7,8 @@ use Prim.Native.Nat.{_≤_, _-_}
 use native.Mathlib.Omega.{arith}
 use lib.Dec.{eqb}
 use Rattle.sets.specs.Sets.{any}
-use Rattle.sets.proofs.Bounded.{any-of}
+use Rattle.sets.proofs.Bounded.{any-of, any-next}
 use Rattle.rules.specs.Families.{hasRole, sessionAt, isActiveFor}
-use Rattle.enforcement.proofs.RequestLaws.{any-next}
 use Rattle.enforcement.proofs.requests.is_active_for.Statement.{statement}
 use Rattle.enforcement.proofs.requests.is_active_for.Tie as tie
 

@@ -58,15 +58,15 @@ use denote.Triple.Spec.{Meets, tripleOf}
 use denote.Triple.Table.{entered, cited}
 use denote.Triple.Walked.{says, Stays, stay-none, stay-none-slice, stay-slice, walkOf, goes-none, goes-none-slice, goes-slice, Walks, ends-at, walked, walk-meets}
 use denote.Exit.{yes}
-use Rattle.rules.specs.Acceptance.{rulesOf, listAccepted}
+use Rattle.rules.specs.Acceptance.{listAccepted}
 use Rattle.rules.specs.declared.lists.RuleList.{RuleList}
 use Rattle.enforcement.specs.States.{fresh}
-use Rattle.steps.specs.Steps.{actionOf}
-use Rattle.enforcement.specs.Gate.{decide, stepOf}
+use Rattle.enforcement.specs.Gate.{decideStep, stepOf}
 use Rattle.enforcement.specs.Deciding.{configurationOf, stateWith, nextOf}
-use Rattle.enforcement.specs.Reached.{Accepted}
+use Rattle.enforcement.specs.Reached.{Typed, Accepted}
 use Rattle.steps.specs.Answers.{wordOf}
 use Rattle.enforcement.specs.Runs.{admissionOf, ranOf, entriesWritten, RunGiven, RunPlain}
+use Rattle.enforcement.specs.Safety.{RunSafe}
 use Rattle.enforcement.specs.declared.states.State.{State}
 use Rattle.steps.specs.declared.steps.Step.{Step}
 use Rattle.steps.specs.declared.answers.Answer.{Answer}
@@ -78,6 +78,7 @@ use Rattle.enforcement.specs.declared.runs.Admission.{Admission}
 use Rattle.enforcement.specs.declared.runs.Ran.{Ran}
 use Rattle.enforcement.proofs.Answering.{accepted-length}
 use Rattle.enforcement.proofs.Typing.{typed-state}
+use Rattle.enforcement.proofs.Safety.{ran-safe}
 use Rattle.enforcement.proofs.Running.{noStep, stateAt, entriesAt, Going-on, runs-on, next-is, next-state, next-entries, state-none, entries-none, result-end, entries-end, ran-plain, written-plain}
 use Rattle.rules.proofs.lists.RuleList as ListT
 use Rattle.rules.proofs.lists.RuleList.Laws as ListL
@@ -266,19 +267,25 @@ record Point (list : RuleList) (st₀ : State) (ss : List Step) (ys₀ : List �
 abbrev stayed : Stays (run′.ended .signature .params) (run′.ended .kept)
 stayed = (stay-none (λ _. ListT.the-row) yes, (stay-none (λ _. StateT.the-row) yes, (stay-none-slice (0 ∷ []) tt (plain (λ _. StepT.the-row)) yes, (stay-slice (1 ∷ []) tt (plain (λ _. u64)), tt))))
 
--- two facts beside what is had
-both-said : {M : Type 1} (𝓤 : URA M) {X : SProp 𝓤} {φ ψ : Type 0} → φ → ψ → ent 𝓤 X (sep 𝓤 X (sep 𝓤 (fact 𝓤 φ) (fact 𝓤 ψ)))
-both-said 𝓤 {X} {φ} {ψ} x y =
-    via 𝓤 (sep 𝓤 (emp 𝓤) X) (emp∗ 𝓤 X)
-    (via 𝓤 (sep 𝓤 (sep 𝓤 (fact 𝓤 φ) (fact 𝓤 ψ)) X)
-    (monoL 𝓤 X (via 𝓤 (sep 𝓤 (emp 𝓤) (emp 𝓤)) (emp∗ 𝓤 (emp 𝓤)) (mono∗ 𝓤 (factI 𝓤 φ (emp 𝓤) x) (factI 𝓤 ψ (emp 𝓤) y))))
-    (comm∗ 𝓤 (sep 𝓤 (fact 𝓤 φ) (fact 𝓤 ψ)) X))
+-- facts beside what is had
+one-said : {M : Type 1} (𝓤 : URA M) {X : SProp 𝓤} {φ : Type 0} (Y : SProp 𝓤) → φ → ent 𝓤 X Y → ent 𝓤 X (sep 𝓤 (fact 𝓤 φ) Y)
+one-said 𝓤 {X} {φ} Y x y = via 𝓤 (sep 𝓤 (emp 𝓤) X) (emp∗ 𝓤 X) (mono∗ 𝓤 (factI 𝓤 φ (emp 𝓤) x) y)
 
--- ---- the two promises
+all-said : {M : Type 1} (𝓤 : URA M) {X : SProp 𝓤} {φ ψ χ : Type 0} → φ → ψ → χ → ent 𝓤 X (sep 𝓤 X (sep 𝓤 (fact 𝓤 φ) (sep 𝓤 (fact 𝓤 ψ) (fact 𝓤 χ))))
+all-said 𝓤 {X} {φ} {ψ} {χ} x y z =
+    via 𝓤 (sep 𝓤 (emp 𝓤) X) (emp∗ 𝓤 X)
+    (via 𝓤 (sep 𝓤 (sep 𝓤 (fact 𝓤 φ) (sep 𝓤 (fact 𝓤 ψ) (fact 𝓤 χ))) X)
+    (monoL 𝓤 X (one-said 𝓤 _ x (one-said 𝓤 _ y (factI 𝓤 χ (emp 𝓤) z))))
+    (comm∗ 𝓤 (sep 𝓤 (fact 𝓤 φ) (sep 𝓤 (fact 𝓤 ψ) (fact 𝓤 χ))) X))
+
+-- ---- the promises beside the first
 plain-by : (list : RuleList) (st : State) (ss : List Step) (ys : List ℕ) (r : Ran) (zs : List ℕ) → RunGiven list st ss ys r zs → RunPlain list st ss ys r zs
 plain-by list st ss ys r zs given fresh-is listed room =
     let same : r ≡ ranOf list fresh ss (length ys) = given .0 ∙ ap (λ (s : State). ranOf list s ss (length ys)) fresh-is in
     (ap (λ (x : Ran). x .number) same ∙ ran-plain list listed ss ys room .0, ap (λ (x : Ran). x .state) same ∙ ran-plain list listed ss ys room .1, given .1 ∙ ap (λ (s : State). entriesWritten list s ss ys) fresh-is ∙ written-plain list listed ss ys room)
+
+safe-by : (list : RuleList) (st : State) (ss : List Step) (ys : List ℕ) (r : Ran) (zs : List ℕ) → Typed st → RunGiven list st ss ys r zs → RunSafe list st ss r
+safe-by list st ss ys r zs typed given = subst (RunSafe list st ss) (sym (given .0)) (ran-safe list st ss (length ys) typed)
 
 module _ {M : Type 1} (𝓤 : URA M) (H : Heap 𝓤) (A : Atoms 𝓤) (mem : Memory → SProp 𝓤) (run : Routine → Fun 𝓤) where
   -- the contracts that the proof cites
@@ -426,12 +433,12 @@ module _ {M : Type 1} (𝓤 : URA M) (H : Heap 𝓤) (A : Atoms 𝓤) (W : Given
   named-steps = fres γ (codedHoleys StepT.the-row .code (heres StepT.the-row ss))
 
   -- from what is had at exit to the `post` of `walkOf`
-  exits : (ys : List ℕ) (r : Ran) (u : Val) → length ys ≡ m → RunGiven list st₀ ss ys₀ r ys → RunPlain list st₀ ss ys₀ r ys
+  exits : (ys : List ℕ) (r : Ran) (u : Val) → length ys ≡ m → RunGiven list st₀ ss ys₀ r ys → RunPlain list st₀ ss ys₀ r ys → RunSafe list st₀ ss r
       → ent 𝓤 (⋆ 𝓤 H A (‵ (RanT.the-row .own r (u ∷ [])) ∷ ‵ (seen ys) ∷ ‵ (lent ys) ∷ ‵ (flft κ′ q′) ∷ ‵ (flft κ q) ∷ ‵ shared ∷ ‵ named-steps ∷ [])) (Post u)
-  exits ys r u len e e′ =
+  exits ys r u len e e′ e″ =
       qed W (‵ (RanT.the-row .own r (u ∷ [])) ∷ ‵ (seen ys) ∷ ‵ (lent ys) ∷ ‵ (flft κ′ q′) ∷ ‵ (flft κ q) ∷ ‵ shared ∷ ‵ named-steps ∷ []) ∵
       suffices ! _ (ends-at 𝓤 H A run′.ended stayed (run′.clauses 𝓤 H A mem run) W bound u r (tt, (tt, (tt, (ys, tt)))) (tt, (tt, (tt, (len, tt))))) $
-      suffices ! _ (both-said 𝓤 {φ = RunGiven list st₀ ss ys₀ r ys} {ψ = RunPlain list st₀ ss ys₀ r ys} e e′) $
+      suffices ! _ (all-said 𝓤 {φ = RunGiven list st₀ ss ys₀ r ys} {ψ = RunPlain list st₀ ss ys₀ r ys} {χ = RunSafe list st₀ ss r} e e′ e″) $
       nothing ! $ move ! (4 ∷ 0 ∷ []) $ join ! $ move ! (4 ∷ 0 ∷ []) $ join ! $ frame ! $
       -- [the result; seen; lent; shared; named]
       nothing ! $ move ! (2 ∷ 3 ∷ []) $ fjoin ! $ pureI ! (at-slice u64 (answers ys) (at .1 .1 .1 .0)) (tt, (tt, tt)) (ap (λ (k : ℕ). sliceVal (b′, o′) k ∷ []) (sym len), subst (Room u64) (sym len) gm) $ fjoin ! $ fjoin ! $
@@ -470,7 +477,7 @@ module _ {M : Type 1} (𝓤 : URA M) (H : Heap 𝓤) (A : Atoms 𝓤) (W : Given
     in-answers : x .i < length (x .ys)
     in-answers = omega (arith, in-steps, room-for, x .len)
 
-    off-step : x .i * 56 < 2 ^ 64
+    off-step : x .i * 72 < 2 ^ 64
     off-step = omega (arith, in-steps, gn .1)
 
     off-answer : x .i * 8 < 2 ^ 64
@@ -480,11 +487,11 @@ module _ {M : Type 1} (𝓤 : URA M) (H : Heap 𝓤) (A : Atoms 𝓤) (W : Given
     next-fits = omega (arith, in-steps, gn .0)
 
     -- what is decided is what the gate answers
-    stepped : (r : Next) → r ≡ decide (rulesOf list) (here x) (actionOf s) → r ≡ stepOf list (here x) s
+    stepped : (r : Next) → r ≡ decideStep list (here x) s → r ≡ stepOf list (here x) s
     stepped r e = next-is list st₀ ss ys₀ (x .i) (here x) r accepted (on .listed) (x .st-is) e
 
     -- after the step
-    next : (r : NextConfiguration) (hs : List ℕ) (w : ℕ) → nextOf r hs ≡ decide (rulesOf list) (here x) (actionOf s) → w ≡ wordOf (r .answer) → IsNext r → IsHistory hs → At-point
+    next : (r : NextConfiguration) (hs : List ℕ) (w : ℕ) → nextOf r hs ≡ decideStep list (here x) s → w ≡ wordOf (r .answer) → IsNext r → IsHistory hs → At-point
     next r hs w e e′ p q = record {
       i = x .i + 1;
       le = add-one-le in-limit;
@@ -606,7 +613,7 @@ module _ {M : Type 1} (𝓤 : URA M) (H : Heap 𝓤) (A : Atoms 𝓤) (W : Given
           -- the place of steps[i]
           assigns ! (bin ! (load ! (from ! (stop !)) (look ! 31 refl)) (lit ! tt) (record { fits = off-step x less })) (from ! (stop !)) (init ! 19 refl (tt, record { fits = off-step x less })) $
           assigns ! (bin ! (load ! (from ! (fld ! refl (stop !))) (look-in ! 43 (sub ! 0 refl (whole !)))) (load ! (from ! (stop !)) (look ! 19 refl)) tt) (from ! (stop !)) (init ! 17 refl (tt, tt)) $
-          rewrite ! 17 (λ (p : ℕ). ‵ (fat fullShare tyPtr l₁₆ 0 (vptr b p))) (sym (place-is 56 o (x .i))) refl $
+          rewrite ! 17 (λ (p : ℕ). ‵ (fat fullShare tyPtr l₁₆ 0 (vptr b p))) (sym (place-is 72 o (x .i))) refl $
           -- the steps are looked into, and step i is taken out, read, and put back
           move ! (4 ∷ 3 ∷ []) $
           looks-slice ! tt StepT.the-row (Is StepT.the-row) (shows 𝓤 H A StepT.the-row) (SL.vals StepT.the-type StepL.the-laws) (SL.tells StepT.the-type StepL.the-laws) (SL.copy StepT.the-type StepL.the-copy 𝓤 H A W) ss b o (λ p.
@@ -624,8 +631,8 @@ module _ {M : Type 1} (𝓤 : URA M) (H : Heap 𝓤) (A : Atoms 𝓤) (W : Given
           -- [what is asked; the lender's part; κ; shared; seen; lent; κ′; the locals, from 7, without the history]
           calls-at ! fm (Decided 𝓤 H A mem run) known-decided (to-decided 𝓤 H A mem run list (x .last .configuration) (x .hs) (s x less) α l₇ δ) (and-then ! (load ! (from ! (fld ! refl (stop !))) (look-in ! 35 (sub ! 0 refl (whole !)))) (and-then ! (load ! (from ! (stop !)) (look ! 48 refl)) (and-then ! (load ! (from ! (stop !)) (look ! 17 refl)) (and-then ! (load ! (from ! (stop !)) (look ! 15 refl)) (no-more !))))) (λ u.
           use1 W (later (some (λ (r : NextConfiguration). ((‵ (flft (α ∷ []) fullShare) ⊛ ‵ ftrue) ⊛ ‵ (NextT.the-row .own r (u ∷ []))) ⊛ raw (ensured 𝓤 H A decided.ended (decided.clauses 𝓤 H A mem run) (α ∷ [], tt) (x .last .configuration, (list, (s x less, (lent-history 𝓤 H A mem run (x .hs) l₇ δ, tt)))) tt r)))) (id⊢ 𝓤 _) $ await ! tt $ pick ! (λ r.
-          split ! $ move ! (1 ∷ []) $ use1 W (some (λ (zs : Unit {0} × (Unit {0} × (Unit {0} × (List ℕ × Unit {0})))). ‵ (lasts decided.ended (α ∷ [], tt) (x .last .configuration, (list, (s x less, (lent-history 𝓤 H A mem run (x .hs) l₇ δ, tt)))) zs) ⊛ raw (fact 𝓤 (nextOf r (zs .1 .1 .1 .0) ≡ decide (rulesOf list) (here x) (actionOf (s x less)))))) (id⊢ 𝓤 _) $ pick ! (λ zs.
-          split ! $ move ! (1 ∷ []) $ heard ! (nextOf r (zs .1 .1 .1 .0) ≡ decide (rulesOf list) (here x) (actionOf (s x less))) (λ e. fsplit ! $ drop ! $ fsplit ! $ drop ! $ fsplit ! $ drop ! $ fsplit ! $
+          split ! $ move ! (1 ∷ []) $ use1 W (some (λ (zs : Unit {0} × (Unit {0} × (Unit {0} × (List ℕ × Unit {0})))). ‵ (lasts decided.ended (α ∷ [], tt) (x .last .configuration, (list, (s x less, (lent-history 𝓤 H A mem run (x .hs) l₇ δ, tt)))) zs) ⊛ raw (fact 𝓤 (nextOf r (zs .1 .1 .1 .0) ≡ decideStep list (here x) (s x less))))) (id⊢ 𝓤 _) $ pick ! (λ zs.
+          split ! $ move ! (1 ∷ []) $ heard ! (nextOf r (zs .1 .1 .1 .0) ≡ decideStep list (here x) (s x less)) (λ e. fsplit ! $ drop ! $ fsplit ! $ drop ! $ fsplit ! $ drop ! $ fsplit ! $
           -- [the last history; true; the token and the result; the lender's part; κ; shared; seen; lent; κ′; the locals]
           move ! (2 ∷ []) $ split ! $ move ! (1 ∷ []) $ facts ! NextT.the-row (Is NextT.the-row) (shows 𝓤 H A NextT.the-row) r (u ∷ []) (λ owned-next.
           land ! (from ! (stop !)) (store ! 37 refl (SL.lawful NextT.the-type NextL.the-laws 𝓤 H A W .typed r _ owned-next .0)) $
@@ -673,7 +680,7 @@ module _ {M : Type 1} (𝓤 : URA M) (H : Heap 𝓤) (A : Atoms 𝓤) (W : Given
           returns ! (look ! 49 refl) $ forget ! 5 refl $ forget ! 7 refl $ forget ! 21 refl $ forget ! 23 refl $ forget ! 25 refl $ forget ! 27 refl $ forget ! 29 refl $ forget ! 31 refl $ forget ! 33 refl $ forget ! 35 refl $ forget ! 37 refl $ forget ! 39 refl $ forget ! 41 refl $ forget ! 43 refl $ forget ! 45 refl $ forget ! 47 refl $ forget ! 49 refl $
           move ! (49 ∷ 50 ∷ []) $ free1 ! $ move ! (47 ∷ 48 ∷ []) $ free1 ! $ move ! (45 ∷ 46 ∷ []) $ free1 ! $ move ! (43 ∷ 44 ∷ []) $ free1 ! $ move ! (41 ∷ 42 ∷ []) $ free1 ! $ move ! (39 ∷ 40 ∷ []) $ free1 ! $ move ! (37 ∷ 38 ∷ []) $ free1 ! $ move ! (35 ∷ 36 ∷ []) $ free1 ! $ move ! (33 ∷ 34 ∷ []) $ free1 ! $ move ! (31 ∷ 32 ∷ []) $ free1 ! $ move ! (29 ∷ 30 ∷ []) $ free1 ! $ move ! (27 ∷ 28 ∷ []) $ free1 ! $ move ! (25 ∷ 26 ∷ []) $ free1 ! $ move ! (23 ∷ 24 ∷ []) $ free1 ! $ move ! (21 ∷ 22 ∷ []) $ free1 ! $ move ! (19 ∷ 20 ∷ []) $ free1 ! $ move ! (17 ∷ 18 ∷ []) $ free1 ! $ move ! (15 ∷ 16 ∷ []) $ free1 ! $ move ! (13 ∷ 14 ∷ []) $ free1 ! $ move ! (11 ∷ 12 ∷ []) $ free1 ! $ move ! (9 ∷ 10 ∷ []) $ free1 ! $ move ! (7 ∷ 8 ∷ []) $ free1 ! $ move ! (5 ∷ 6 ∷ []) $ free1 ! $ free0 ! $
           owned ! RanT.the-row (Is RanT.the-row) (SL.makes RanT.the-type RanL.the-plain 𝓤 H A) (result x over) (ran-val (result x over) ∷ []) (is-ran x over gp) $
-          by ! (exits (x .ys) (result x over) (ran-val (result x over)) (x .len) (given-is x over) (plain-by list st₀ ss ys₀ (result x over) (x .ys) (given-is x over))))))))
+          by ! (exits (x .ys) (result x over) (ran-val (result x over)) (x .len) (given-is x over) (plain-by list st₀ ss ys₀ (result x over) (x .ys) (given-is x over)) (safe-by list st₀ ss ys₀ (result x over) (x .ys) (typed-state st₀ _ gs) (given-is x over))))))))
         where
           -- what is handed back is a `NextConfiguration`
           is-next : (r : NextConfiguration) (u : Val) → Is NextT.the-row r (u ∷ []) → IsNext r

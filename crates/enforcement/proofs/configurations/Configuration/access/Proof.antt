@@ -8,10 +8,11 @@ use lib.ListN.{set}
 use lib.Seq.{set-set, set-getD}
 use Rattle.sets.specs.Sets.{member, any}
 use Rattle.rules.specs.Families.{wordAt, permissionsOf}
+use Rattle.rights.specs.Rights.{isCarried}
 use Rattle.enforcement.specs.Steps.{check, target, withHistory}
 use Rattle.enforcement.specs.Deciding.{stateWith}
 use Rattle.enforcement.proofs.EndedPairs.{none-ended}
-use Rattle.enforcement.proofs.RequestLaws.{carried-same, decide-refused, granted-decided, broken-decided, not-told}
+use Rattle.enforcement.proofs.RequestLaws.{decide-refused, granted-decided, broken-decided, not-told}
 use borrow.Author.Needs.{needs}
 use Rattle.enforcement.proofs.configurations.Configuration.access.Statement.{statement}
 use Rattle.enforcement.proofs.configurations.Configuration.access.Tie as tie
@@ -20,9 +21,8 @@ use Rattle.enforcement.proofs.configurations.Configuration.access.Tie a
 asked : (c : tie.After-is-carried) →
     let start = c .before .before .before .before .before .before .before in
     c .is-carried .result ≡ any 32 (λ r. member (wordAt (start .args .t1 .active) (start .args .session)) r && member (permissionsOf (start .args .t1 .granted) r) (start .args .permission))
-asked c =
-    let start = c .before .before .before .before .before .before .before in
-    c .is-carried .ensures ∙ carried-same (start .args .t1 .granted) (wordAt (start .args .t1 .active) (start .args .session)) (start .args .permission)
+unfolding isCarried
+asked c = c .is-carried .ensures
 
 mul-place : tie.Need-mul-place
 mul-place c = search needs

@@ -10,7 +10,8 @@ use Rattle.rules.specs.Families.{permissionsOf}
 use Rattle.enforcement.specs.Steps.{check, target, withGranted}
 use Rattle.enforcement.specs.Deciding.{stateWith}
 use Rattle.enforcement.proofs.EndedPairs.{none-ended}
-use Rattle.enforcement.proofs.RequestLaws.{carries-word, decide-refused, granted-decided, broken-decided}
+use Rattle.rights.proofs.Carrying.{carries-word}
+use Rattle.enforcement.proofs.RequestLaws.{decide-refused, granted-decided, broken-decided}
 use borrow.Author.Needs.{needs}
 use Rattle.enforcement.proofs.configurations.Configuration.grant.Statement.{statement}
 use Rattle.enforcement.proofs.configurations.Configuration.grant.Tie as tie

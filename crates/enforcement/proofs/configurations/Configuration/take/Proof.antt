@@ -1,7 +1,8 @@
 -- `enforcement::configurations::Configuration::take` meets its contract.
 -- Assumes nothing.
 use mathlib.Core.Path.{refl, _∙_}
-use Rattle.enforcement.proofs.RequestLaws.{carries-word, decide-refused, decide-request, not-told, request-free}
+use Rattle.rights.proofs.Carrying.{carries-word}
+use Rattle.enforcement.proofs.RequestLaws.{decide-refused, decide-request, not-told, request-free}
 use Rattle.enforcement.specs.Steps.{check, target}
 use Rattle.selection.specs.Selection.{selects}
 use borrow.Author.Needs.{needs}

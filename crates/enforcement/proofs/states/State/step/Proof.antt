@@ -3,8 +3,7 @@
 use mathlib.Core.Path.{_≡_, sym, ap, ap₂, _∙_}
 use mathlib.Core.Bool.{Bool, true, _&&_}
 use borrow.Author.Tests.{not-true, not-false}
-use Rattle.rules.specs.Acceptance.{rulesOf, listAccepted}
-use Rattle.steps.specs.Steps.{actionOf}
+use Rattle.rules.specs.Acceptance.{listAccepted}
 use Rattle.enforcement.specs.States.{stateAccepted}
 use Rattle.enforcement.specs.Gate.{stepOf}
 use Rattle.enforcement.specs.Narrow.{Narrow}
@@ -19,7 +18,7 @@ use Rattle.enforcement.proofs.states.State.step.Tie as tie
 -- what is given is what document 01 says with the selected rules alone
 both-kept : (c : tie.Start) (next : Next) → next ≡ stepOf (c .args .list) (c .args .t1) (c .args .step) →
     (next ≡ stepOf (c .args .list) (c .args .t1) (c .args .step))
-    × (listAccepted (c .args .list) ≡ true → stateAccepted (c .args .t1) ≡ true → Narrow (rulesOf (c .args .list)) (c .args .t1) (actionOf (c .args .step)) next)
+    × (listAccepted (c .args .list) ≡ true → stateAccepted (c .args .t1) ≡ true → Narrow (c .args .list) (c .args .t1) (c .args .step) next)
 both-kept c next given = (
   given,
   λ listed stated. selected-only (c .args .list) listed (c .args .t1) (record { typed = typed-state (c .args .t1) _ (c .good .0); unrefused = stated }) (c .args .step) next .0 given,
