@@ -1,36 +1,37 @@
 -- THEOREMS on rule lists as texts: there and back, what is accepted, and the first bad line.
 -- Assumes nothing.
-use mathlib.Core.Path.{_≡_, refl, sym, ap, _∙_, subst}
+use mathlib.Core.Path.{_≡_, refl, sym, ap, _∙_}
 use mathlib.Core.Bool.{true}
 use mathlib.Core.Logic.{_↔_, _⊎_, inl, inr, ⊎-elim}
 use mathlib.Core.List.{List, [], _++_, append-nil}
-use Prim.Native.Nat.{ℕ, suc, _+_, _-_, _≤_, _<_}
+use Prim.Native.Nat.{ℕ, _≤_, _<_}
 use native.Mathlib.Omega.{arith}
 use lib.ListN.{length}
-use lib.Dec.{leb}
-use borrow.Author.Tests.{leb-true}
-use Rattle.sets.proofs.Booleans.{both}
-use Rattle.rules.specs.Acceptance.{ruleAccepted, every, rulesOf, listAccepted}
+use Rattle.rules.specs.Acceptance.{rulesOf, listAccepted}
+use Rattle.rules.specs.declared.families.Rule.{Rule}
+use Rattle.rules.specs.declared.rights.RightSlot.{RightSlot}
 use Rattle.rules.specs.declared.lists.RuleList.{RuleList}
-use Rattle.rule_text.specs.Lines.{listText}
-use Rattle.rule_text.specs.Reading.{readLines, listOf, SameRules, prefixOf, loadedOf, readRules}
+use Rattle.rule_text.specs.Lines.{linesText, nextLine}
+use Rattle.rule_text.specs.Reading.{readLines, noRights, listOf, SameRules, prefixOf, loadedOf, readRules}
 use Rattle.rule_text.specs.Writing.{textOf}
-use Rattle.rule_text.specs.Causes.{Cause, FirstBad}
+use Rattle.rule_text.specs.Causes.{Cause, GoodLines, FirstBad}
 use Rattle.rule_text.specs.declared.reading.LoadedRules.{LoadedRules}
-use Rattle.rule_text.proofs.Slots.{rules-of-list, list-accepted, slots-length, list-few, same-rules}
+use Rattle.rule_text.proofs.Slots.{rules-of-list, list-rights, list-accepted, slots-length, accepted-most, accepted-good, none-good, same-rules}
 use Rattle.rule_text.proofs.Loaded.{loaded-whole, loaded-bad, zero-or-some, loaded-zero, loaded-some}
 use Rattle.rule_text.proofs.Lists.{cause-number, cause-some, reads-lines, reads-whole, reads-until}
 
 -- ---- what is loaded
 
-few-rules : (text : List ℕ) → length (readLines text .rules) ≤ 128
-few-rules text = omega (arith, reads-lines text .few)
+-- the list of some lines has their text
+list-text : (rights : List RightSlot) (rules : List Rule) → GoodLines rights rules → textOf (listOf rights rules) ≡ linesText rights rules
+list-text rights rules good = rw (list-rights rights rules, rules-of-list rights rules (good .few))
 
--- a text that is accepted is its rules' text
-whole-text : (text : List ℕ) → readLines text .number ≡ 0 → text ≡ listText 1 (readLines text .rules)
+-- a text that is accepted is the text of its lines
+whole-text : (text : List ℕ) → readLines text .number ≡ 0 → text ≡ linesText (readLines text .rights) (readLines text .rules)
 whole-text text none =
+    let front = linesText (readLines text .rights) (readLines text .rules) in
     ⊎-elim
-    (λ stop. reads-lines text .reads ∙ ap (λ (l : List ℕ). listText 1 (readLines text .rules) ++ l) (stop .1) ∙ append-nil (listText 1 (readLines text .rules)))
+    (λ stop. reads-lines text .reads ∙ ap (λ (l : List ℕ). front ++ l) (stop .1) ∙ append-nil front)
     (λ stop. absurd (omega (arith, cause-some (stop .1), none)))
     (reads-lines text .stops)
 
@@ -41,21 +42,19 @@ pub write-back : (text : List ℕ) (list : RuleList) → readRules text ≡ reco
 write-back text list e =
     let none = loaded-zero (readLines text) (ap (λ (l : LoadedRules). l .number) e) in
     let same = ap (λ (l : LoadedRules). l .list) (sym e ∙ loaded-whole (readLines text) none) in
-    rw (same, rules-of-list (readLines text .rules) (few-rules text)) (sym (whole-text text none))
+    rw same (list-text (readLines text .rights) (readLines text .rules) (reads-lines text .good) ∙ sym (whole-text text none))
 
--- an accepted list, written and read, is the list of its rules
-pub read-back : (list : RuleList) → listAccepted list ≡ true → readRules (textOf list) ≡ record { number = 0; line = 0; list = listOf (rulesOf list) }
-unfolding listAccepted
-read-back list accepted =
-    let rules-accepted = both (leb (list .length) 128) (every ruleAccepted (rulesOf list)) accepted .1 in
-    rw (reads-whole (rulesOf list) (list-few list accepted) rules-accepted) (loaded-whole (record { rules = rulesOf list; length = length (textOf list); number = 0 }) refl)
+-- an accepted list, written and read, is the list of its rights and rules
+pub read-back : (list : RuleList) → length (list .rights) ≡ 6 → listAccepted list ≡ true
+    → readRules (textOf list) ≡ record { number = 0; line = 0; list = listOf (list .rights) (rulesOf list) }
+read-back list kinds accepted =
+    rw (reads-whole (list .rights) (rulesOf list) (accepted-good list kinds accepted))
+    (loaded-whole (record { rights = list .rights; rules = rulesOf list; length = length (textOf list); number = 0 }) refl)
 
--- its length, the rules below it, and past it the filler
-pub read-back-same : (list : RuleList) → length (list .slots) ≡ 128 → listAccepted list ≡ true → SameRules list (readRules (textOf list) .list)
-unfolding listAccepted
-read-back-same list slots accepted =
-    let most = leb-true (list .length) 128 (both (leb (list .length) 128) (every ruleAccepted (rulesOf list)) accepted .0) in
-    rw (read-back list accepted) (same-rules list slots most)
+-- its length, the rules below it, past it the filler, and the right of each kind
+pub read-back-same : (list : RuleList) → length (list .slots) ≡ 128 → length (list .rights) ≡ 6 → listAccepted list ≡ true
+    → SameRules list (readRules (textOf list) .list)
+read-back-same list slots kinds accepted = rw (read-back list kinds accepted) (same-rules list slots (accepted-most list accepted))
 
 -- ---- what is accepted
 
@@ -63,26 +62,30 @@ read-back-same list slots accepted =
 pub read-accepted : (text : List ℕ) → listAccepted (readRules text .list) ≡ true
 read-accepted text =
     ⊎-elim
-    (λ none. rw (loaded-whole (readLines text) none) (list-accepted (readLines text .rules) (few-rules text) (reads-lines text .accepted)))
-    (λ some. rw (loaded-bad (readLines text) some) (list-accepted [] (omega arith) (unfold every in refl)))
+    (λ none. rw (loaded-whole (readLines text) none) (list-accepted (readLines text .rights) (readLines text .rules) (reads-lines text .good)))
+    (λ some. rw (loaded-bad (readLines text) some) (list-accepted noRights [] none-good))
     (zero-or-some (readLines text .number))
 
 pub prefix-accepted : (text : List ℕ) → listAccepted (prefixOf (readLines text) .list) ≡ true
 unfolding prefixOf
-prefix-accepted text = list-accepted (readLines text .rules) (few-rules text) (reads-lines text .accepted)
+prefix-accepted text = list-accepted (readLines text .rights) (readLines text .rules) (reads-lines text .good)
+
+-- a list as the code holds it, which 40 does not refuse
+abbrev pub Accepted : RuleList → Type 0
+Accepted list = (length (list .slots) ≡ 128) × (length (list .rights) ≡ 6) × (listAccepted list ≡ true)
 
 -- a text is accepted exactly where it is the text of a list that 40 does not refuse
-pub accepted-as-text : (text : List ℕ)
-    → (readRules text .number ≡ 0) ↔ ((list : RuleList) × (length (list .slots) ≡ 128) × (listAccepted list ≡ true) × (text ≡ textOf list))
-accepted-as-text text = (as-text, λ of-list. ap (λ (l : LoadedRules). l .number) (ap readRules (of-list .3) ∙ read-back (of-list .0) (of-list .2)))
+pub accepted-as-text : (text : List ℕ) → (readRules text .number ≡ 0) ↔ ((list : RuleList) × Accepted list × (text ≡ textOf list))
+accepted-as-text text = (as-text, λ of-list. ap (λ (l : LoadedRules). l .number) (ap readRules (of-list .2) ∙ read-back (of-list .0) (of-list .1 .1) (of-list .1 .2)))
   where
-    as-text : readRules text .number ≡ 0 → (list : RuleList) × (length (list .slots) ≡ 128) × (listAccepted list ≡ true) × (text ≡ textOf list)
+    as-text : readRules text .number ≡ 0 → (list : RuleList) × Accepted list × (text ≡ textOf list)
     as-text none =
-        let rules = readLines text .rules in (
-          listOf rules,
-          slots-length rules,
-          list-accepted rules (few-rules text) (reads-lines text .accepted),
-          whole-text text (loaded-zero (readLines text) none) ∙ ap (listText 1) (sym (rules-of-list rules (few-rules text))),
+        let rights = readLines text .rights in
+        let rules = readLines text .rules in
+        let good = reads-lines text .good in (
+          listOf rights rules,
+          (slots-length rights rules, ap length (list-rights rights rules) ∙ good .kinds, list-accepted rights rules good),
+          whole-text text (loaded-zero (readLines text) none) ∙ sym (list-text rights rules good),
         )
 
 -- ---- which numbers are given
@@ -95,7 +98,8 @@ read-number text =
     (λ some. inr (rw (loaded-bad (readLines text) some) (by-stop (reads-lines text .stops) some)))
     (zero-or-some (readLines text .number))
   where
-    by-stop : {rest : List ℕ} {n : ℕ} → ((readLines text .number ≡ 0) × (rest ≡ [])) ⊎ ((0 < length rest) × Cause n rest (readLines text .number)) → 0 < readLines text .number
+    by-stop : {rest : List ℕ} {n : ℕ} → ((readLines text .number ≡ 0) × (rest ≡ [])) ⊎ ((0 < length rest) × Cause (readLines text .rights) n rest (readLines text .number))
+        → 0 < readLines text .number
         → (10 ≤ readLines text .number) × (readLines text .number ≤ 14)
     by-stop (inl stop) some = absurd (omega (arith, stop .0, some))
     by-stop (inr stop) some = cause-number (stop .1)
@@ -111,24 +115,25 @@ first-bad text number n some = (is-first, answered)
         let bad : 0 < readLines text .number = loaded-some (readLines text) (omega (arith, answer .0)) in
         let same = loaded-bad (readLines text) bad in
         let number-same : readLines text .number ≡ number = ap (λ (l : LoadedRules). l .number) (sym same) ∙ answer .0 in
-        let line-same : n ≡ suc (length (readLines text .rules)) = sym (answer .1) ∙ ap (λ (l : LoadedRules). l .line) same in
+        let line-same : n ≡ nextLine (readLines text .rights) (readLines text .rules) = sym (answer .1) ∙ ap (λ (l : LoadedRules). l .line) same in
         ⊎-elim
         (λ stop. absurd (omega (arith, bad, stop .0)))
         (λ stop. record {
+          rights = readLines text .rights;
           rules = readLines text .rules;
-          few = few-rules text;
-          accepted = reads-lines text .accepted;
+          good = reads-lines text .good;
           before = line-same;
           rest = reads-lines text .rest;
           some = stop .0;
           reads = reads-lines text .reads;
-          cause = subst (λ (k : ℕ). Cause k (reads-lines text .rest) number) (sym (line-same ∙ omega arith)) (rw number-same at (stop .1));
+          cause = rw number-same at (stop .1);
         })
         (reads-lines text .stops)
 
     answered : FirstBad text number n → (readRules text .number ≡ number) × (readRules text .line ≡ n)
     answered bad =
-        let lines = reads-until (bad .rules) (bad .few) (bad .accepted) (bad .rest) number (bad .some) (rw (bad .before) at (bad .cause)) in
-        let same : readRules text ≡ record { number = number; line = suc (length (bad .rules)); list = listOf [] } =
-        ap readRules (bad .reads) ∙ ap loadedOf lines ∙ loaded-bad (record { rules = bad .rules; length = length (listText 1 (bad .rules)); number = number }) some in
+        let lines = reads-until (bad .rights) (bad .rules) (bad .good) (bad .rest) number (bad .some) (bad .cause) in
+        let same : readRules text ≡ record { number = number; line = nextLine (bad .rights) (bad .rules); list = listOf noRights [] } =
+        ap readRules (bad .reads) ∙ ap loadedOf lines
+        ∙ loaded-bad (record { rights = bad .rights; rules = bad .rules; length = length (linesText (bad .rights) (bad .rules)); number = number }) some in
         (ap (λ (l : LoadedRules). l .number) same, ap (λ (l : LoadedRules). l .line) same ∙ sym (bad .before))

@@ -1,5 +1,5 @@
 -- THEOREMS on what `read_rules` and `write_rules` give one after the other: an accepted text comes back byte for byte, and a list that was
--- written is read as the same rules.
+-- written is read as the same list.
 -- Assumes nothing.
 use mathlib.Core.Path.{_≡_, sym, ap, _∙_, subst}
 use mathlib.Core.List.{List}
@@ -36,11 +36,11 @@ module _ (text lent : List ℕ) (whole : readRules text .number ≡ 0) where
 -- ---- written, then read
 
 -- the bytes that were written are accepted, and read as the same list
-pub list-back : (list : RuleList) → length (list .slots) ≡ 128 → (lent : List ℕ) (n : ℕ) → writtenRules list lent ≡ Length n
+pub list-back : (list : RuleList) → length (list .slots) ≡ 128 → length (list .rights) ≡ 6 → (lent : List ℕ) (n : ℕ) → writtenRules list lent ≡ Length n
     → (readRules (take n (lentAfterRules list lent)) .number ≡ 0) × SameRules list (readRules (take n (lentAfterRules list lent)) .list)
-list-back list slots lent n answer =
+list-back list slots kinds lent n answer =
     let fits = written-length list lent n .0 answer in
     let front : take n (lentAfterRules list lent) ≡ textOf list = rw (fits .2) (written list lent (fits .0) (fits .1) .front) in (
-      ap (λ (t : List ℕ). readRules t .number) front ∙ ap (λ (l : LoadedRules). l .number) (read-back list (fits .0)),
-      subst (λ (t : List ℕ). SameRules list (readRules t .list)) (sym front) (read-back-same list slots (fits .0)),
+      ap (λ (t : List ℕ). readRules t .number) front ∙ ap (λ (l : LoadedRules). l .number) (read-back list kinds (fits .0)),
+      subst (λ (t : List ℕ). SameRules list (readRules t .list)) (sym front) (read-back-same list slots kinds (fits .0)),
     )

@@ -5,7 +5,7 @@ use mathlib.Core.Bool.{Bool, true, _&&_}
 use mathlib.Core.List.{List, [], _∷_, _++_}
 use Prim.Native.Nat.{ℕ, _+_, _≤_, _<_}
 use native.Mathlib.Omega.{arith}
-use lib.ListN.{length, getD}
+use lib.ListN.{length, take, getD}
 use lib.Dec.{leb, ltb, eqb}
 use lib.IntN.{ℤ, pos, negsuc}
 use borrow.Author.Tests.{leb-true, ltb-true, le-leb, eqb-true}
@@ -20,13 +20,13 @@ use Rattle.places.specs.declared.Side.the-variants.{Inside, Outside}
 use Rattle.rules.specs.Acceptance.{ruleInRange}
 use Rattle.rules.specs.declared.families.Rule.{Rule}
 use Rattle.rules.specs.declared.families.Rule.the-variants.{Prerequisite, MaxUsers, MaxRoles, MaxPermissions, MaxActive, StaticSeparation, DynamicSeparation, Dependency, TimeContext, LocationContext, HistorySeparation, BindingOfDuty}
-use Rattle.rule_text.specs.Lines.{ruleForms, formCount, line, lineOf, lineText, ruleText, narrow, ruleOfForm}
+use Rattle.rule_text.specs.Lines.{ruleForms, ruleFormCount, line, lineOf, lineText, ruleText, narrow, ruleOfForm}
 use Rattle.forms.specs.declared.tables.Found.{Found}
 use Rattle.rule_text.specs.declared.lines.Line.{Line}
 use Rattle.forms.proofs.Finding.{found-hits, found-written}
 use Rattle.forms.proofs.Marks.{range-fits}
 use Rattle.rule_text.proofs.Marks.{marksIn, valuesFor, rangesHold, values-by-marks, ranges-by-marks, padded, padded-in-range, padded-text}
-use Rattle.rule_text.proofs.Values.{narrow-same, heldFor, holdable, all-held, everyForm, table-length, form-at, marksAt, line-held}
+use Rattle.rule_text.proofs.Values.{narrow-same, heldFor, holdable, all-held, everyForm, table-length, rule-form-at, marksAt, line-held}
 use Rattle.rule_text.proofs.Ranges.{IsShort, IsShortRule, line-in-range, in-range-short, made-short, coordinate-short}
 
 -- ---- the table, as computed tests
@@ -38,17 +38,17 @@ table-distinct = refl
 
 -- the index that the code has is the table's
 abbrev pub ruleStarts : List ℕ
-ruleStarts = 0 ∷ 22 ∷ 47 ∷ 70 ∷ 101 ∷ 125 ∷ 146 ∷ 174 ∷ 195 ∷ 227 ∷ 262 ∷ 295 ∷ 325 ∷ 357 ∷ 397 ∷ 436 ∷ 477 ∷ 517 ∷ 542 ∷ 567 ∷ []
+ruleStarts = 0 ∷ 22 ∷ 47 ∷ 70 ∷ 101 ∷ 125 ∷ 146 ∷ 174 ∷ 195 ∷ 227 ∷ 262 ∷ 295 ∷ 325 ∷ 357 ∷ 397 ∷ 436 ∷ 477 ∷ 517 ∷ 542 ∷ 567 ∷ 584 ∷ 603 ∷ 619 ∷ 634 ∷ 649 ∷ 666 ∷ []
 
 pub index-right : ruleStarts ≡ startsOf ruleForms
 unfolding ruleForms startsOf linesIn
 index-right = refl
 
--- a form has at most six numbers, the rule's own first, and a rule's fields hold them
+-- a form of a rule has at most six numbers, the rule's own first, and a rule's fields hold them
 isRuleForm : List ℕ → Bool
 isRuleForm t = eqb (head (marksIn t)) 35 && (leb 1 (length (marksIn t)) && (leb (length (marksIn t)) 6 && holdable (marksIn t)))
 
-table-of-rules : everyForm isRuleForm (linesIn ruleForms) ≡ true
+table-of-rules : everyForm isRuleForm (take ruleFormCount (linesIn ruleForms)) ≡ true
 unfolding everyForm isRuleForm holdable marksIn linesIn ruleForms isSlot kindOf lookup
 table-of-rules = refl
 
@@ -61,11 +61,11 @@ number-range : (n : ℕ) → inRange 35 n ≡ true → (1 ≤ n) × (n ≤ 128)
 unfolding inRange inRangeBy kindOf lookup
 number-range n h = let parts = both (leb 1 n) (leb n 128) h in (leb-true 1 n (parts .0), leb-true n 128 (parts .1))
 
-rule-form : (k : ℕ) → k < formCount → RuleForm (marksAt k)
+rule-form : (k : ℕ) → k < ruleFormCount → RuleForm (marksAt k)
 unfolding isRuleForm
 rule-form k h =
     let marks = marksAt k in
-    let first = both (eqb (head marks) 35) (leb 1 (length marks) && (leb (length marks) 6 && holdable marks)) (form-at isRuleForm table-of-rules k h) in
+    let first = both (eqb (head marks) 35) (leb 1 (length marks) && (leb (length marks) 6 && holdable marks)) (rule-form-at isRuleForm table-of-rules k h) in
     let second = both (leb 1 (length marks)) (leb (length marks) 6 && holdable marks) (first .1) in
     let third = both (leb (length marks) 6) (holdable marks) (second .1) in
     record {
@@ -83,7 +83,7 @@ rule-form k h =
 
 -- ---- from a line to its rule and back
 
-head-first : (values : List ℕ) → getD values 0 0 ≡ head values
+pub head-first : (values : List ℕ) → getD values 0 0 ≡ head values
 head-first [] = refl
 head-first (v ∷ values) = refl
 
@@ -97,7 +97,7 @@ six-values (a ∷ b ∷ c ∷ d ∷ f ∷ []) e = absurd (omega arith)
 six-values (a ∷ b ∷ c ∷ d ∷ f ∷ g ∷ []) e = refl
 six-values (a ∷ b ∷ c ∷ d ∷ f ∷ g ∷ h ∷ v) e = absurd (omega arith)
 
-module _ (k : ℕ) (values : List ℕ) (h : k < formCount) (six : length values ≡ 6) (in-range : allInRange (formAt ruleForms k) values ≡ true) where
+module _ (k : ℕ) (values : List ℕ) (h : k < ruleFormCount) (six : length values ≡ 6) (in-range : allInRange (formAt ruleForms k) values ≡ true) where
   form : RuleForm (marksAt k)
   form = rule-form k h
 
@@ -165,9 +165,9 @@ rule-held n (LocationContext r (Outside (Box a b c d))) short e =
 rule-held n (HistorySeparation p q) short e = rw (e 1, e 2)
 rule-held n (BindingOfDuty p q) short e = rw (e 1, e 2)
 
--- a line's form is in the table, and it has no value that the form has not
+-- a line's form is one of a rule, and it has no value that the form has not
 abbrev OwnLine : ℕ → Line → Type 0
-OwnLine n l = (ltb (l .form) formCount ≡ true) × (padded (valuesFor (marksAt (l .form)) (l .values)) ≡ l .values) × (getD (l .values) 0 0 ≡ n)
+OwnLine n l = (ltb (l .form) ruleFormCount ≡ true) × (padded (valuesFor (marksAt (l .form)) (l .values)) ≡ l .values) × (getD (l .values) 0 0 ≡ n)
 
 own-line : (n : ℕ) (rule : Rule) → OwnLine n (lineOf n rule)
 unfolding lineOf valuesFor marksIn formAt linesIn ruleForms isSlot kindOf lookup
@@ -191,8 +191,11 @@ own-line n (LocationContext r (Outside (Box a b c d))) = (refl, refl, refl)
 own-line n (HistorySeparation p q) = (refl, refl, refl)
 own-line n (BindingOfDuty p q) = (refl, refl, refl)
 
-pub form-of-rule : (n : ℕ) (rule : Rule) → lineOf n rule .form < formCount
-form-of-rule n rule = ltb-true (lineOf n rule .form) formCount (own-line n rule .0)
+pub form-of-rule : (n : ℕ) (rule : Rule) → lineOf n rule .form < ruleFormCount
+form-of-rule n rule = ltb-true (lineOf n rule .form) ruleFormCount (own-line n rule .0)
+
+in-table : (n : ℕ) (rule : Rule) → lineOf n rule .form < length (linesIn ruleForms)
+in-table n rule = rw table-length (omega (arith, form-of-rule n rule))
 
 pub number-of-rule : (n : ℕ) (rule : Rule) → getD (lineOf n rule .values) 0 0 ≡ n
 number-of-rule n rule = own-line n rule .2
@@ -215,7 +218,7 @@ module _ (n : ℕ) (rule : Rule) (first : 1 ≤ n) (last : n ≤ 128) (in-range 
       → found ruleForms (ruleText n rule ++ s) ≡ record { form = lineOf n rule .form; values = lineOf n rule .values; length = length (ruleText n rule) }
   unfolding ruleText
   found-rule s =
-      found-written ruleForms (lineOf n rule .form) (lineOf n rule .values) s table-distinct (rw table-length (form-of-rule n rule))
+      found-written ruleForms (lineOf n rule .form) (lineOf n rule .values) s table-distinct (in-table n rule)
       (range-fits (formAt ruleForms (lineOf n rule .form)) (lineOf n rule .values) rule-line-in-range)
       ∙ ap (λ (v : List ℕ). record { form = lineOf n rule .form; values = v; length = length (ruleText n rule) })
       (ap padded (values-by-marks (formAt ruleForms (lineOf n rule .form)) (lineOf n rule .values)) ∙ own-line n rule .1)
@@ -223,4 +226,4 @@ module _ (n : ℕ) (rule : Rule) (first : 1 ≤ n) (last : n ≤ 128) (in-range 
   pub text-some : 0 < length (ruleText n rule)
   text-some =
       subst (λ (f : Found). f .form < length (linesIn ruleForms) → 0 < f .length) (found-rule [])
-      (found-hits ruleForms (ruleText n rule ++ []) table-distinct .some) (rw table-length (form-of-rule n rule))
+      (found-hits ruleForms (ruleText n rule ++ []) table-distinct .some) (in-table n rule)

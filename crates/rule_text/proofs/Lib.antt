@@ -2,7 +2,10 @@ pub mod Marks
 pub mod Values
 pub mod Ranges
 pub mod Inverse
+pub mod RightLines
 pub mod Causes
+pub mod RightLists
+pub mod RightLoop
 pub mod Lists
 pub mod Prefixes
 pub mod Slots

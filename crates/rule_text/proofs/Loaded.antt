@@ -5,18 +5,18 @@ use mathlib.Core.Logic.{_⊎_, inl, inr, ⊎-elim}
 use mathlib.Core.List.{[]}
 use Prim.Native.Nat.{ℕ, zero, suc, _<_}
 use native.Mathlib.Omega.{arith}
-use lib.ListN.{length}
 use borrow.Author.Tests.{eq-eqb, ne-eqb}
 use Rattle.rules.specs.declared.lists.RuleList.{RuleList}
-use Rattle.rule_text.specs.Reading.{LinesRead, listOf, prefixOf, loadedOf}
+use Rattle.rule_text.specs.Lines.{nextLine}
+use Rattle.rule_text.specs.Reading.{LinesRead, noRights, listOf, prefixOf, loadedOf}
 use Rattle.rule_text.specs.declared.reading.Prefix.{Prefix}
 use Rattle.rule_text.specs.declared.reading.LoadedRules.{LoadedRules}
 
-pub loaded-whole : (lines : LinesRead) → lines .number ≡ 0 → loadedOf lines ≡ record { number = 0; line = 0; list = listOf (lines .rules) }
+pub loaded-whole : (lines : LinesRead) → lines .number ≡ 0 → loadedOf lines ≡ record { number = 0; line = 0; list = listOf (lines .rights) (lines .rules) }
 unfolding loadedOf
 loaded-whole lines none = rw (eq-eqb (lines .number) 0 none)
 
-pub loaded-bad : (lines : LinesRead) → 0 < lines .number → loadedOf lines ≡ record { number = lines .number; line = suc (length (lines .rules)); list = listOf [] }
+pub loaded-bad : (lines : LinesRead) → 0 < lines .number → loadedOf lines ≡ record { number = lines .number; line = nextLine (lines .rights) (lines .rules); list = listOf noRights [] }
 unfolding loadedOf
 loaded-bad lines some = rw (ne-eqb (lines .number) 0 (λ e. omega arith))
 
@@ -41,7 +41,7 @@ loaded-some lines some =
 -- ---- `read_rules`
 
 module _ (lines : LinesRead) (prefix : Prefix) (read : prefix ≡ prefixOf lines) where
-  pub load-bad : (prefix .number ≡ 0 → ⊥) → (list : RuleList) → list ≡ listOf [] → record { number = prefix .number; line = prefix .line; list = list } ≡ loadedOf lines
+  pub load-bad : (prefix .number ≡ 0 → ⊥) → (list : RuleList) → list ≡ listOf noRights [] → record { number = prefix .number; line = prefix .line; list = list } ≡ loadedOf lines
   unfolding prefixOf
   load-bad other list empty =
       let some : 0 < lines .number = ⊎-elim (λ none. absurd (other (ap (λ (p : Prefix). p .number) read ∙ none))) (λ h. h) (zero-or-some (lines .number)) in

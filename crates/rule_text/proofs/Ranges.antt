@@ -23,7 +23,7 @@ use Rattle.places.specs.declared.Side.the-variants.{Inside, Outside}
 use Rattle.rules.specs.Acceptance.{isRole, isPermission, ruleInRange}
 use Rattle.rules.specs.declared.families.Rule.{Rule}
 use Rattle.rules.specs.declared.families.Rule.the-variants.{Prerequisite, MaxUsers, MaxRoles, MaxPermissions, MaxActive, StaticSeparation, DynamicSeparation, Dependency, TimeContext, LocationContext, HistorySeparation, BindingOfDuty}
-use Rattle.rule_text.specs.Lines.{ruleForms, formCount, lineOf, ruleOfForm}
+use Rattle.rule_text.specs.Lines.{ruleForms, ruleFormCount, lineOf, ruleOfForm}
 use Rattle.forms.proofs.Coordinates.{coordinate-grid}
 use Rattle.rule_text.proofs.Marks.{marksIn, rangesHold, ranges-by-marks}
 use Rattle.rule_text.proofs.Values.{marksAt, each-at}
@@ -42,7 +42,7 @@ role-range : (r : ℕ) → inRange 36 r ≡ isRole r
 unfolding inRange inRangeBy kindOf lookup
 role-range r = rw (leb·zero r) (sym (leb·suc-suc r 31))
 
-permission-range : (p : ℕ) → inRange 37 p ≡ isPermission p
+pub permission-range : (p : ℕ) → inRange 37 p ≡ isPermission p
 unfolding inRange inRangeBy kindOf lookup
 permission-range p = rw (leb·zero p) (sym (leb·suc-suc p 31))
 
@@ -126,7 +126,7 @@ IsShortRule (LocationContext r side) = IsShortShape (shapeOf side)
 IsShortRule (HistorySeparation p q) = Unit {0}
 IsShortRule (BindingOfDuty p q) = Unit {0}
 
-and-true : (a : Bool) → a && true ≡ a
+pub and-true : (a : Bool) → a && true ≡ a
 and-true true = refl
 and-true false = refl
 
@@ -201,7 +201,7 @@ pub coordinate-short : (value : ℕ) → IsShort (coordinateOf value)
 coordinate-short value = on-grid-short (coordinateOf value) (coordinate-grid value)
 
 -- and so does one made of values
-pub made-short : (k : ℕ) (values : List ℕ) → k < formCount → IsShortRule (ruleOfForm k values)
+pub made-short : (k : ℕ) (values : List ℕ) → k < ruleFormCount → IsShortRule (ruleOfForm k values)
 unfolding ruleOfForm
 made-short k values h =
     let short : (i : ℕ) → IsShort (coordinateOf (getD values i 0)) = λ i. coordinate-short (getD values i 0) in

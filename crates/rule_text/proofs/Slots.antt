@@ -1,7 +1,7 @@
--- A rule list of some rules: its slots, its rules, and that it is accepted where they are.
+-- A rule list of some rights and rules: its slots, its rules, and that it is accepted where they are.
 -- Assumes nothing.
 use mathlib.Core.Path.{_≡_, refl, ap, _∙_}
-use mathlib.Core.Bool.{true}
+use mathlib.Core.Bool.{Bool, true, _&&_}
 use mathlib.Core.List.{List, [], _∷_, _++_, map}
 use Prim.Native.Nat.{ℕ, _+_, _-_, _≤_, _<_}
 use native.Mathlib.Omega.{arith}
@@ -9,13 +9,17 @@ use lib.ListN.{length, take, drop, getD, length-map, length-take, getD-replicate
 use lib.Seq.{sets-eq, length-sets, take-at, length-take-le, getD-take, getD-drop, getD-append-add}
 use lib.Dec.{leb}
 use borrow.Author.Tests.{leb-true, le-leb}
+use Rattle.sets.specs.Sets.{all}
 use Rattle.sets.proofs.Booleans.{both, both-true}
-use Rattle.rules.specs.Acceptance.{ruleOf, ruleAccepted, every, rulesOf, listAccepted}
+use Rattle.sets.proofs.Bounded.{all-of, of-all}
+use Rattle.rules.specs.Acceptance.{ruleOf, ruleAccepted, unstated, rightAt, rightAccepted, every, rulesOf, listAccepted}
 use Rattle.rules.specs.declared.families.Rule.{Rule}
+use Rattle.rules.specs.declared.rights.RightSlot.{RightSlot}
 use Rattle.rules.specs.declared.lists.Slot.{Slot}
 use Rattle.rules.specs.declared.lists.RuleList.{RuleList}
 use Rattle.rule_text.specs.Lines.{filler}
-use Rattle.rule_text.specs.Reading.{slot, unusedSlots, listOf, SameRules}
+use Rattle.rule_text.specs.Reading.{slot, unusedSlots, noRights, listOf, SameRules}
+use Rattle.rule_text.specs.Causes.{GoodLines}
 
 -- ---- the list of some rules
 
@@ -27,13 +31,17 @@ slots-rules : (rules : List Rule) → map ruleOf (map slot rules) ≡ rules
 slots-rules [] = refl
 slots-rules (rule ∷ rules) = ap (λ (l : List Rule). rule ∷ l) (slots-rules rules)
 
-pub list-length : (rules : List Rule) → listOf rules .length ≡ length rules
+pub list-length : (rights : List RightSlot) (rules : List Rule) → listOf rights rules .length ≡ length rules
 unfolding listOf
-list-length rules = refl
+list-length rights rules = refl
 
-module _ (rules : List Rule) (few : length rules ≤ 128) where
+pub list-rights : (rights : List RightSlot) (rules : List Rule) → listOf rights rules .rights ≡ rights
+unfolding listOf
+list-rights rights rules = refl
+
+module _ (rights : List RightSlot) (rules : List Rule) (few : length rules ≤ 128) where
   -- the rules stand in the first slots, and the filler after them
-  slots-of-list : listOf rules .slots ≡ map slot rules ++ drop (length rules) unusedSlots
+  slots-of-list : listOf rights rules .slots ≡ map slot rules ++ drop (length rules) unusedSlots
   unfolding listOf
   slots-of-list =
       let z : 0 + length rules ≡ length rules = omega arith in
@@ -41,26 +49,63 @@ module _ (rules : List Rule) (few : length rules ≤ 128) where
       rw (length-map rules slot, z) at (sets-eq (map slot rules) unusedSlots 0 room)
 
   -- its rules are those
-  pub rules-of-list : rulesOf (listOf rules) ≡ rules
+  pub rules-of-list : rulesOf (listOf rights rules) ≡ rules
   rules-of-list =
       rw (slots-of-list, list-length, take-at (map slot rules) (drop (length rules) unusedSlots) (length rules) (length-map rules slot)) (slots-rules rules)
 
-  pub list-accepted : every ruleAccepted rules ≡ true → listAccepted (listOf rules) ≡ true
-  unfolding listAccepted
-  list-accepted accepted =
-      both-true (leb (listOf rules .length) 128) (every ruleAccepted (rulesOf (listOf rules))) (rw list-length (le-leb (length rules) 128 few)) (rw rules-of-list accepted)
-
-pub slots-length : (rules : List Rule) → length (listOf rules .slots) ≡ 128
+pub slots-length : (rights : List RightSlot) (rules : List Rule) → length (listOf rights rules .slots) ≡ 128
 unfolding listOf
-slots-length rules = length-sets unusedSlots 0 (map slot rules) ∙ unused-length
+slots-length rights rules = length-sets unusedSlots 0 (map slot rules) ∙ unused-length
 
--- ---- a list and the list of its rules
+-- ---- which lists are accepted
+
+-- the tests of 40
+abbrev rightsAccepted : List RightSlot → Bool
+rightsAccepted rights = all 6 (λ kind. rightAccepted (rightAt rights kind))
+
+pub list-accepted : (rights : List RightSlot) (rules : List Rule) → GoodLines rights rules → listAccepted (listOf rights rules) ≡ true
+unfolding listAccepted
+list-accepted rights rules good =
+    both-true (leb (listOf rights rules .length) 128) (every ruleAccepted (rulesOf (listOf rights rules)) && rightsAccepted (listOf rights rules .rights))
+    (rw list-length (le-leb (length rules) 128 (good .few)))
+    (both-true (every ruleAccepted (rulesOf (listOf rights rules))) (rightsAccepted (listOf rights rules .rights))
+    (rw (rules-of-list rights rules (good .few)) (good .accepted))
+    (rw list-rights (all-of 6 (λ kind. rightAccepted (rightAt rights kind)) (good .in-range))))
+
+pub accepted-most : (list : RuleList) → listAccepted list ≡ true → list .length ≤ 128
+unfolding listAccepted
+accepted-most list accepted =
+    leb-true (list .length) 128 (both (leb (list .length) 128) (every ruleAccepted (rulesOf list) && rightsAccepted (list .rights)) accepted .0)
 
 pub list-few : (list : RuleList) → listAccepted list ≡ true → length (rulesOf list) ≤ 128
-unfolding listAccepted
 list-few list accepted =
-    let most = leb-true (list .length) 128 (both (leb (list .length) 128) (every ruleAccepted (rulesOf list)) accepted .0) in
+    let most = accepted-most list accepted in
     rw (length-map (take (list .length) (list .slots)) ruleOf, length-take) (omega arith)
+
+pub accepted-good : (list : RuleList) → length (list .rights) ≡ 6 → listAccepted list ≡ true → GoodLines (list .rights) (rulesOf list)
+accepted-good list kinds accepted = record {
+  kinds = kinds;
+  in-range = of-all 6 (λ kind. rightAccepted (rightAt (list .rights) kind)) (parts .1);
+  few = list-few list accepted;
+  accepted = parts .0;
+}
+  where
+    parts : (every ruleAccepted (rulesOf list) ≡ true) × (rightsAccepted (list .rights) ≡ true)
+    parts =
+        unfold listAccepted in
+        both (every ruleAccepted (rulesOf list)) (rightsAccepted (list .rights)) (both (leb (list .length) 128) (every ruleAccepted (rulesOf list) && rightsAccepted (list .rights)) accepted .1)
+
+-- no rights and no rules
+pub none-good : GoodLines noRights []
+unfolding noRights every
+none-good = record {
+  kinds = refl;
+  in-range = λ kind h. ap (λ (slot : RightSlot). rightAccepted (slot .right)) (getD-replicate 6 kind unstated unstated h);
+  few = omega arith;
+  accepted = refl;
+}
+
+-- ---- a list and the list of its rules
 
 slots-again : (slots : List Slot) → map slot (map ruleOf slots) ≡ slots
 slots-again [] = refl
@@ -74,15 +119,15 @@ module _ (list : RuleList) (slots : length (list .slots) ≡ 128) (most : list .
   rules-length : length (rulesOf list) ≡ list .length
   rules-length = rw (length-map (take (list .length) (list .slots)) ruleOf) (length-take-le (list .length) (list .slots) (omega arith))
 
-  slots-read : listOf (rulesOf list) .slots ≡ take (list .length) (list .slots) ++ drop (list .length) unusedSlots
-  slots-read = slots-of-list (rulesOf list) (rw rules-length most) ∙ rw (rules-length, slots-again)
+  slots-read : listOf (list .rights) (rulesOf list) .slots ≡ take (list .length) (list .slots) ++ drop (list .length) unusedSlots
+  slots-read = slots-of-list (list .rights) (rulesOf list) (rw rules-length most) ∙ rw (rules-length, slots-again)
 
   first-length : length (take (list .length) (list .slots)) ≡ list .length
   first-length = length-take-le (list .length) (list .slots) (omega arith)
 
-  pub same-rules : SameRules list (listOf (rulesOf list))
+  pub same-rules : SameRules list (listOf (list .rights) (rulesOf list))
   same-rules = record {
-    same-length = list-length (rulesOf list) ∙ rules-length;
+    same-length = list-length (list .rights) (rulesOf list) ∙ rules-length;
     below = λ i h.
         rw (slots-read, List·getD-append (take (list .length) (list .slots)) (drop (list .length) unusedSlots) (slot filler) i (rw first-length h))
         (getD-take (list .length) (list .slots) i (slot filler) h);
@@ -94,4 +139,5 @@ module _ (list : RuleList) (slots : length (list .slots) ≡ 128) (most : list .
         ∙ getD-append-add (take (list .length) (list .slots)) (drop (list .length) unusedSlots) (i - list .length) (slot filler)
         ∙ getD-drop (list .length) unusedSlots (i - list .length) (slot filler)
         ∙ rw there (unused-at i h);
+    same-rights = λ kind h. ap (λ (rights : List RightSlot). rightAt rights kind) (list-rights (list .rights) (rulesOf list));
   }

@@ -1,12 +1,13 @@
 -- A value in its range is what a rule's field holds of it, and a line's rule has that line again.
 -- Assumes nothing.
-use mathlib.Core.Path.{_≡_, refl}
+use mathlib.Core.Path.{_≡_, refl, subst}
 use mathlib.Core.Bool.{Bool, true, _&&_}
 use mathlib.Core.List.{List, [], _∷_}
 use Prim.Native.Nat.{ℕ, zero, suc, _+_, _-_, _%_, _≤_, _<_}
 use native.Mathlib.Nat.{mod-eq-of-lt}
 use native.Mathlib.Omega.{arith}
-use lib.ListN.{length, getD, List·getD-eq-default}
+use lib.ListN.{length, take, getD, List·getD-eq-default}
+use lib.Seq.{getD-take}
 use lib.Dec.{leb}
 use borrow.Author.Tests.{leb-true, le-leb}
 use Rattle.sets.proofs.Booleans.{both}
@@ -18,7 +19,7 @@ use Rattle.forms.specs.declared.kinds.Syntax.{Syntax}
 use Rattle.forms.specs.declared.kinds.Syntax.the-variants.{Literal, Number, Positive, Signed, Date, TimeOfDay}
 use Rattle.forms.proofs.Coordinates.{code-back}
 use Rattle.rule_text.proofs.Marks.{marksIn, valuesFor, rangesHold, padded}
-use Rattle.rule_text.specs.Lines.{ruleForms, formCount, line, lineOf, narrow, rulesWith, filler, ruleOfForm}
+use Rattle.rule_text.specs.Lines.{ruleForms, formCount, ruleFormCount, line, lineOf, narrow, rulesWith, filler, ruleOfForm}
 
 -- ---- a value
 
@@ -88,8 +89,16 @@ each-from zero i k P e h = absurd (omega arith)
 each-from (suc n) i zero P e h = let z : i + 0 ≡ i = omega arith in rw z (e .0)
 each-from (suc n) i (suc k) P e h = let z : suc i + k ≡ i + suc k = omega arith in rw z at (each-from n (suc i) k P (e .1) (omega arith))
 
-pub each-at : (P : ℕ → Type 0) → Each formCount 0 P → (k : ℕ) → k < formCount → P k
-each-at P e k h = let z : 0 + k ≡ k = omega arith in rw z at (each-from formCount 0 k P e h)
+each-below : (n : ℕ) (P : ℕ → Type 0) → Each n 0 P → (k : ℕ) → k < n → P k
+each-below n P e k h = let z : 0 + k ≡ k = omega arith in rw z at (each-from n 0 k P e h)
+
+-- at each form of a rule
+pub each-at : (P : ℕ → Type 0) → Each ruleFormCount 0 P → (k : ℕ) → k < ruleFormCount → P k
+each-at P e k h = each-below ruleFormCount P e k h
+
+-- at each kind of right
+pub each-kind : (P : ℕ → Type 0) → Each 6 0 P → (kind : ℕ) → kind < 6 → P kind
+each-kind P e kind h = each-below 6 P e kind h
 
 -- a test that passes at each form of a table
 unfoldable pub everyForm : (List ℕ → Bool) → List (List ℕ) → Bool
@@ -110,12 +119,23 @@ pub form-at : (test : List ℕ → Bool) → everyForm test (linesIn ruleForms) 
 unfolding formAt
 form-at test e k h = form-in test (linesIn ruleForms) e k (rw table-length h)
 
+rule-forms : length (take ruleFormCount (linesIn ruleForms)) ≡ ruleFormCount
+unfolding ruleForms linesIn
+rule-forms = refl
+
+pub rule-form-at : (test : List ℕ → Bool) → everyForm test (take ruleFormCount (linesIn ruleForms)) ≡ true → (k : ℕ) → k < ruleFormCount
+    → test (formAt ruleForms k) ≡ true
+unfolding formAt
+rule-form-at test e k h =
+    subst (λ (form : List ℕ). test form ≡ true) (getD-take ruleFormCount (linesIn ruleForms) k [] h)
+    (form-in test (take ruleFormCount (linesIn ruleForms)) e k (rw rule-forms h))
+
 -- the marks of form k
 abbrev pub marksAt : ℕ → List ℕ
 marksAt k = marksIn (formAt ruleForms k)
 
 -- the rule of a line has the line's form, and what its fields hold of the values
-pub line-held : (k a b c d e f : ℕ) → k < formCount
+pub line-held : (k a b c d e f : ℕ) → k < ruleFormCount
     → lineOf (narrow a) (ruleOfForm k (a ∷ b ∷ c ∷ d ∷ e ∷ f ∷ [])) ≡ line k (padded (heldFor (marksAt k) (a ∷ b ∷ c ∷ d ∷ e ∷ f ∷ [])))
 unfolding lineOf ruleOfForm heldFor marksIn formAt linesIn ruleForms isSlot kindOf lookup
 line-held k a b c d e f h =
@@ -123,7 +143,7 @@ line-held k a b c d e f h =
     (refl, (refl, (refl, (refl, (refl, (refl, (refl, (refl, (refl, (refl, (refl, (refl, (refl, (refl, (refl, (refl, (refl, (refl, (refl, tt)))))))))))))))))))
     k h
 
--- past the table it is the filler
-pub past-forms : (k : ℕ) (values : List ℕ) → formCount ≤ k → ruleOfForm k values ≡ filler
+-- past the forms of rules it is the filler
+pub past-forms : (k : ℕ) (values : List ℕ) → ruleFormCount ≤ k → ruleOfForm k values ≡ filler
 unfolding ruleOfForm
 past-forms k values past = List·getD-eq-default (rulesWith (λ i. narrow (getD values i 0)) (λ i. coordinateOf (getD values i 0))) filler past

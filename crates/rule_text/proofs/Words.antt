@@ -1,9 +1,10 @@
--- THEOREM: a rule's line reads in document 01's words, with its own number and its own numbers, each where the document puts it.
+-- THEOREMS: a rule's line reads in document 01's words, with its own number and its own numbers, each where the document puts it; and so does
+-- a right's in those of 2026-05.
 -- Assumes nothing.
-use mathlib.Core.Path.{_≡_}
+use mathlib.Core.Path.{_≡_, refl}
 use mathlib.Core.Bool.{true}
 use mathlib.Core.List.{append-assoc}
-use Prim.Native.Nat.{ℕ}
+use Prim.Native.Nat.{ℕ, _<_}
 use Rattle.forms.specs.Kinds.{kindOf, lookup, isSlot}
 use Rattle.forms.specs.Forms.{textBy, itemText, fill}
 use Rattle.forms.specs.Tables.{linesIn, formAt}
@@ -14,8 +15,10 @@ use Rattle.places.specs.declared.Side.the-variants.{Inside, Outside}
 use Rattle.rules.specs.Acceptance.{ruleInRange}
 use Rattle.rules.specs.declared.families.Rule.{Rule}
 use Rattle.rules.specs.declared.families.Rule.the-variants.{Prerequisite, MaxUsers, MaxRoles, MaxPermissions, MaxActive, StaticSeparation, DynamicSeparation, Dependency, TimeContext, LocationContext, HistorySeparation, BindingOfDuty}
-use Rattle.rule_text.specs.Lines.{ruleForms, lineOf, ruleText}
-use Rattle.rule_text.specs.Words.{ruleWords}
+use Rattle.rules.specs.declared.rights.Right.the-variants.{Permission}
+use Rattle.rule_text.specs.Lines.{ruleForms, lineOf, ruleText, rightText}
+use Rattle.rule_text.specs.Words.{ruleWords, rightWords}
+use Rattle.rule_text.proofs.Values.{each-kind}
 use Rattle.rule_text.proofs.Ranges.{in-range-short}
 
 pub rule-reads : (n : ℕ) (rule : Rule) → ruleInRange rule ≡ true → ruleText n rule ≡ ruleWords n rule
@@ -47,3 +50,8 @@ rule-reads n (LocationContext r (Outside (Box a b c d))) h =
     simp (signed-text a (short .0 .0), signed-text b (short .0 .1), signed-text c (short .1 .0), signed-text d (short .1 .1), append-assoc)
 rule-reads n (HistorySeparation p q) h = simp append-assoc
 rule-reads n (BindingOfDuty p q) h = simp append-assoc
+
+pub right-reads : (kind permission : ℕ) → kind < 6 → rightText kind (Permission permission) ≡ rightWords kind permission
+unfolding rightText fill itemText textBy isSlot kindOf lookup formAt linesIn ruleForms
+right-reads kind permission h =
+    each-kind (λ kind. rightText kind (Permission permission) ≡ rightWords kind permission) (refl, (refl, (refl, (refl, (refl, (refl, tt)))))) kind h

@@ -8,9 +8,11 @@ use Prim.Native.Nat.{ℕ, suc, _≤_, _<_}
 use lib.ListN.{length}
 use Rattle.forms.specs.Forms.{fill, valuesFit}
 use Rattle.forms.specs.Tables.{formAt}
-use Rattle.rules.specs.Acceptance.{ruleInRange, ruleDistinct, ruleSound, ruleAccepted, every}
+use Rattle.rules.specs.Acceptance.{isPermission, ruleInRange, ruleDistinct, ruleSound, ruleAccepted, rightAt, rightAccepted, every}
 use Rattle.rules.specs.declared.families.Rule.{Rule}
-use Rattle.rule_text.specs.Lines.{ruleForms, formCount, ruleText, listText}
+use Rattle.rules.specs.declared.rights.Right.the-variants.{Permission}
+use Rattle.rules.specs.declared.rights.RightSlot.{RightSlot}
+use Rattle.rule_text.specs.Lines.{ruleForms, formCount, ruleText, rightText, linesText, nextLine}
 use Rattle.rule_text.specs.declared.reading.Parsed.{Parsed}
 
 -- form k with these values is the front of the text
@@ -28,18 +30,34 @@ pub record RuleStands (text : List ℕ) (n : ℕ) (rule : Rule) : Type 0 where
   pub rest : List ℕ
   pub reads : text ≡ ruleText n rule ++ rest
 
--- a line where rule n is the next
-pub data Cause (n : ℕ) (text : List ℕ) : ℕ → Type 0 where
+-- the line of the kind's right is the front of the text, its permission in range
+pub record RightStands (text : List ℕ) (kind permission : ℕ) : Type 0 where
+  pub known : kind < 6
+  pub in-range : isPermission permission ≡ true
+  pub rest : List ℕ
+  pub reads : text ≡ rightText kind (Permission permission) ++ rest
+
+-- 2026-05: "A right line that is second of its kind, out of order or after a rule is 12.": a kind's line after the lines of these rights, where
+-- rule n is the next
+pub data Misplaced (rights : List RightSlot) (n kind : ℕ) : Type 0 where
+  second-of-kind : (earlier : ℕ) → rightAt rights kind ≡ Permission earlier → Misplaced rights n kind
+  out-of-order : (later earlier : ℕ) → kind < later → rightAt rights later ≡ Permission earlier → Misplaced rights n kind
+  after-rule : 1 < n → Misplaced rights n kind
+
+-- a line after the lines of these rights, where rule n is the next
+pub data Cause (rights : List RightSlot) (n : ℕ) (text : List ℕ) : ℕ → Type 0 where
   -- "line is no form of its text"
-  no-form : ((k : ℕ) (values : List ℕ) → Stands text k values → ⊥) → Cause n text 10
-  -- "number outside its range": a form with some numbers stands there, and no rule in range, under no number in range
-  out-of-range : (k : ℕ) (values : List ℕ) → Stands text k values → ((m : ℕ) (rule : Rule) → RuleStands text m rule → ⊥) → Cause n text 11
+  no-form : ((k : ℕ) (values : List ℕ) → Stands text k values → ⊥) → Cause rights n text 10
+  -- "number outside its range": a form with some numbers stands there, and no rule in range, under no number in range, and no right in range
+  out-of-range : (k : ℕ) (values : List ℕ) → Stands text k values → ((m : ℕ) (rule : Rule) → RuleStands text m rule → ⊥)
+      → ((kind permission : ℕ) → RightStands text kind permission → ⊥) → Cause rights n text 11
   -- "rule number not the next"
-  not-next : (m : ℕ) (rule : Rule) → RuleStands text m rule → (m ≡ n → ⊥) → Cause n text 12
+  not-next : (m : ℕ) (rule : Rule) → RuleStands text m rule → (m ≡ n → ⊥) → Cause rights n text 12
+  misplaced : (kind permission : ℕ) → RightStands text kind permission → Misplaced rights n kind → Cause rights n text 12
   -- "same role or permission twice in a rule"
-  same-twice : (rule : Rule) → RuleStands text n rule → ruleDistinct rule ≡ false → Cause n text 13
+  same-twice : (rule : Rule) → RuleStands text n rule → ruleDistinct rule ≡ false → Cause rights n text 13
   -- "no such date, A after B, h = k, box a > c or b > d"
-  unsound : (rule : Rule) → RuleStands text n rule → ruleDistinct rule ≡ true → ruleSound rule ≡ false → Cause n text 14
+  unsound : (rule : Rule) → RuleStands text n rule → ruleDistinct rule ≡ true → ruleSound rule ≡ false → Cause rights n text 14
 
 -- a good line: rule n, which none of the causes has
 pub record GoodLine (n : ℕ) (text : List ℕ) (entry : Parsed) : Type 0 where
@@ -48,13 +66,24 @@ pub record GoodLine (n : ℕ) (text : List ℕ) (entry : Parsed) : Type 0 where
   pub sound : ruleSound (entry .rule) ≡ true
   pub length : entry .length ≡ length (ruleText n (entry .rule))
 
--- "the first bad line counts": good lines, numbered from 1, stand before line n, and it has the cause of the number
-pub record FirstBad (text : List ℕ) (number n : ℕ) : Type 0 where
-  pub rules : List Rule
+-- no good line of a right stands there: each that stands there is misplaced
+abbrev pub RightsEnd : List RightSlot → ℕ → List ℕ → Type 0
+RightsEnd rights n text = (kind permission : ℕ) → RightStands text kind permission → Misplaced rights n kind
+
+-- rights and rules that are accepted: at most one right a kind, at most 128 rules
+pub record GoodLines (rights : List RightSlot) (rules : List Rule) : Type 0 where
+  pub kinds : length rights ≡ 6
+  pub in-range : (kind : ℕ) → kind < 6 → rightAccepted (rightAt rights kind) ≡ true
   pub few : length rules ≤ 128
   pub accepted : every ruleAccepted rules ≡ true
-  pub before : n ≡ suc (length rules)
+
+-- "the first bad line counts": good lines of rights and rules stand before line n, and it has the cause of the number
+pub record FirstBad (text : List ℕ) (number n : ℕ) : Type 0 where
+  pub rights : List RightSlot
+  pub rules : List Rule
+  pub good : GoodLines rights rules
+  pub before : n ≡ nextLine rights rules
   pub rest : List ℕ
   pub some : 0 < length rest
-  pub reads : text ≡ listText 1 rules ++ rest
-  pub cause : Cause n rest number
+  pub reads : text ≡ linesText rights rules ++ rest
+  pub cause : Cause rights (suc (length rules)) rest number

@@ -1,8 +1,9 @@
--- Document 01, 'Texts': "Rule list: `(rule 1 (needs 2 1))`, `(rule 2 (at 2 (inside (circle 0 0 500))))`". A rule's line.
+-- Document 01, 'Texts': "Rule list: `(rule 1 (needs 2 1))`, `(rule 2 (at 2 (inside (circle 0 0 500))))`". 2026-05: "Before the rules a list
+-- may have `(right assign 30)`". The line of a rule, and of a right.
 -- Assumes nothing.
 use mathlib.Core.List.{List, [], _∷_, _++_}
-use Prim.Native.Nat.{ℕ, suc, _%_}
-use lib.ListN.{getD}
+use Prim.Native.Nat.{ℕ, suc, _+_, _%_}
+use lib.ListN.{length, getD}
 use lib.IntN.{ℤ}
 use Rattle.forms.specs.Numbers.{signedCode, coordinateOf}
 use Rattle.forms.specs.Forms.{fill}
@@ -12,9 +13,13 @@ use Rattle.places.specs.declared.Shape.the-variants.{Circle, Box}
 use Rattle.places.specs.declared.Side.the-variants.{Inside, Outside}
 use Rattle.rules.specs.declared.families.Rule.{Rule}
 use Rattle.rules.specs.declared.families.Rule.the-variants.{Prerequisite, MaxUsers, MaxRoles, MaxPermissions, MaxActive, StaticSeparation, DynamicSeparation, Dependency, TimeContext, LocationContext, HistorySeparation, BindingOfDuty}
+use Rattle.rules.specs.declared.rights.Right.{Right}
+use Rattle.rules.specs.declared.rights.Right.the-variants.{Unstated, Permission}
+use Rattle.rules.specs.declared.rights.RightSlot.{RightSlot}
 use Rattle.rule_text.specs.declared.lines.Line.{Line}
 
--- "One form a line", in the order of 'Rules'; each mark stands for a number of its kind
+-- "One form a line", in the order of 'Rules'; each mark stands for a number of its kind. After them the rights, 2026-05: "assign, withdraw,
+-- grant, take, lend and recall", "one line a kind in that order"
 unfoldable pub ruleForms : List ℕ
 ruleForms =
     bytes "(rule # (before $ $))\n"
@@ -36,9 +41,19 @@ ruleForms =
     ++ bytes "(rule # (at $ (outside (box + + + +))))\n"
     ++ bytes "(rule # (two-hands % %))\n"
     ++ bytes "(rule # (same-hand % %))\n"
+    ++ bytes "(right assign %)\n"
+    ++ bytes "(right withdraw %)\n"
+    ++ bytes "(right grant %)\n"
+    ++ bytes "(right take %)\n"
+    ++ bytes "(right lend %)\n"
+    ++ bytes "(right recall %)\n"
 
 abbrev pub formCount : ℕ
-formCount = 19
+formCount = 25
+
+-- the forms of rules, which come first
+abbrev pub ruleFormCount : ℕ
+ruleFormCount = 19
 
 -- ---- a rule as a line
 
@@ -80,9 +95,44 @@ unfoldable pub listText : ℕ → List Rule → List ℕ
 listText n [] = []
 listText n (rule ∷ rules) = ruleText n rule ++ listText (suc n) rules
 
+-- ---- a right as a line
+
+-- the form of the kind, counted from 0, and its one value
+abbrev pub rightLine : ℕ → ℕ → Line
+rightLine kind permission = line (ruleFormCount + kind) (permission ∷ 0 ∷ 0 ∷ 0 ∷ 0 ∷ 0 ∷ [])
+
+-- "a list may have": a kind that has no right has no line
+unfoldable pub rightText : ℕ → Right → List ℕ
+rightText kind Unstated = []
+rightText kind (Permission p) = lineText (rightLine kind p)
+
+-- "one line a kind in that order": the rights as text, the first of them being the kind's
+unfoldable pub rightsText : ℕ → List RightSlot → List ℕ
+rightsText kind [] = []
+rightsText kind (slot ∷ slots) = rightText kind (slot .right) ++ rightsText (suc kind) slots
+
+-- how many lines that is
+abbrev pub lineCount : Right → ℕ
+lineCount Unstated = 0
+lineCount (Permission p) = 1
+
+unfoldable pub rightLines : List RightSlot → ℕ
+rightLines [] = 0
+rightLines (slot ∷ slots) = lineCount (slot .right) + rightLines slots
+
+-- ---- rights and rules
+
+-- "Before the rules a list may have `(right assign 30)`"
+abbrev pub linesText : List RightSlot → List Rule → List ℕ
+linesText rights rules = rightsText 0 rights ++ listText 1 rules
+
+-- the line after them; those of the rights count as lines
+abbrev pub nextLine : List RightSlot → List Rule → ℕ
+nextLine rights rules = suc (rightLines rights + length rules)
+
 -- ---- a line as a rule
 
--- a value as a number of a rule; in range it is the value itself
+-- a value as a number of a rule or a right; in range it is the value itself
 abbrev pub narrow : ℕ → ℕ
 narrow value = value % 4294967296
 

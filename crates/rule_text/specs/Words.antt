@@ -1,8 +1,9 @@
--- Document 01, 'Rules', 'Calendar' and 'Places': each rule in the document's words, as it stands in a line. That a rule's line reads so is
--- proved in proofs/Words.antt.
+-- Document 01, 'Rules', 'Calendar' and 'Places', and 2026-05: each rule and each right in the document's words, as it stands in a line. That
+-- the line of a rule or a right reads so is proved in proofs/Words.antt.
 -- Assumes nothing.
 use mathlib.Core.List.{List, [], _∷_}
 use Prim.Native.Nat.{ℕ}
+use lib.ListN.{getD}
 use Rattle.forms.specs.Numbers.{digitsOf, fixedOf, integerText}
 use Rattle.forms.specs.Tables.{bytes, joined}
 use Rattle.calendar.specs.declared.terms.Term.{Term}
@@ -59,3 +60,11 @@ familyWords (BindingOfDuty p q) = pairWords (bytes "same-hand") p q
 -- "`(rule 1 (needs 2 1))`"
 abbrev pub ruleWords : ℕ → Rule → List ℕ
 ruleWords n rule = joined (bytes "(rule " ∷ digitsOf n ∷ bytes " " ∷ familyWords rule ∷ bytes ")\n" ∷ [])
+
+-- 2026-05: "assign, withdraw, grant, take, lend and recall", counted from 0
+abbrev pub kindWords : List (List ℕ)
+kindWords = bytes "assign" ∷ bytes "withdraw" ∷ bytes "grant" ∷ bytes "take" ∷ bytes "lend" ∷ bytes "recall" ∷ []
+
+-- "`(right assign 30)`"
+abbrev pub rightWords : ℕ → ℕ → List ℕ
+rightWords kind permission = joined (bytes "(right " ∷ getD kindWords kind [] ∷ bytes " " ∷ digitsOf permission ∷ bytes ")\n" ∷ [])

@@ -6,11 +6,11 @@ use Rattle.forms.specs.Writing.{writtenIf, lentIf}
 use Rattle.forms.specs.declared.writing.Written.{Written}
 use Rattle.rules.specs.Acceptance.{rulesOf, listAccepted}
 use Rattle.rules.specs.declared.lists.RuleList.{RuleList}
-use Rattle.rule_text.specs.Lines.{listText}
+use Rattle.rule_text.specs.Lines.{linesText}
 
 -- a rule list as text
 abbrev pub textOf : RuleList → List ℕ
-textOf list = listText 1 (rulesOf list)
+textOf list = linesText (list .rights) (rulesOf list)
 
 unfoldable pub writtenRules : RuleList → List ℕ → Written
 writtenRules list lent = writtenIf (listAccepted list) (textOf list) lent

@@ -1,8 +1,13 @@
-// Which form a rule's line likely has, by the letters that tell the forms apart. A wrong guess costs time and nothing else.
+// Which form a line likely has, by the letters that tell the forms apart. A wrong guess costs time and nothing else.
+ghost use mathlib.Core.Path.{_≡_};
 ghost use Prim.Native.Nat.{_≤_};
+ghost use lib.ListN.{getD};
 
-// The line of the rule with this number: `(rule 1 (` has nine bytes, and a number of more digits as many more.
+// The line of a right, or of the rule with this number: `(rule 1 (` has nine bytes, and a number of more digits as many more.
 pub(crate) fn likely_form(text: &[u8], number: u64) -> usize {
+    if byte_at(text, 2) == b'i' {
+        return likely_right(text);
+    }
     let at = word_start(number);
     let first = byte_at(text, at);
     match first {
@@ -13,6 +18,19 @@ pub(crate) fn likely_form(text: &[u8], number: u64) -> usize {
         b'd' => likely_term(byte_at(text, after_role(text, at + 7))),
         b't' => 17,
         _ => 18,
+    }
+}
+
+// `assign`, `withdraw`, `grant`, `take`, `lend`, `recall`, after `(right `
+pub(crate) fn likely_right(text: &[u8]) -> usize {
+    let first = byte_at(text, 7);
+    match first {
+        b'a' => 19,
+        b'w' => 20,
+        b'g' => 21,
+        b't' => 22,
+        b'l' => 23,
+        _ => 24,
     }
 }
 
@@ -93,7 +111,9 @@ fn after_role(text: &[u8], at: usize) -> usize
 }
 
 // Past the end of the text, 0.
-fn byte_at(text: &[u8], i: usize) -> u8 {
+pub(crate) fn byte_at(text: &[u8], i: usize) -> u8
+    ensures { λ r. ⌜ r ≡ getD (now (text .entry)) i 0 ⌝ }
+{
     if i < text.len() {
         return text[i];
     }

@@ -2,6 +2,7 @@
 mod guesses;
 mod lines;
 mod reading;
+mod rights;
 mod writing;
 
 pub use reading::LoadedRules;

@@ -1,18 +1,18 @@
-// A rule as a line of the text: its form and the values that stand in it; and the rule of such a line.
+// A rule or a right as a line of the text: its form and the values that stand in it; and the rule of such a line.
 ghost use mathlib.Core.Path.{_≡_};
 ghost use mathlib.Core.List.{_∷_, []};
 ghost use Prim.Native.Nat.{_≤_, _<_};
 ghost use lib.ListN.{getD};
 ghost use Rattle.forms.specs.Numbers.{signedCode, coordinateOf};
 ghost use Rattle.rules.specs.declared.families.Rule.the-variants.{TimeContext, LocationContext};
-ghost use Rattle.rule_text.specs.Lines.{line, lineOf, narrow, filler, ruleOfForm};
+ghost use Rattle.rule_text.specs.Lines.{line, lineOf, rightLine, narrow, filler, ruleOfForm};
 use calendar::Term;
 use places::Shape;
 use places::Side;
 use rules::Rule;
 
 // The forms of a rule list, one a line; each mark stands for a number of its kind.
-pub const FORMS: [u8; 567] = *b"\
+pub const FORMS: [u8; 666] = *b"\
 (rule # (before $ $))\n\
 (rule # (max-users $ >))\n\
 (rule # (max-roles <))\n\
@@ -31,12 +31,21 @@ pub const FORMS: [u8; 567] = *b"\
 (rule # (at $ (outside (circle + + ^))))\n\
 (rule # (at $ (outside (box + + + +))))\n\
 (rule # (two-hands % %))\n\
-(rule # (same-hand % %))\n";
+(rule # (same-hand % %))\n\
+(right assign %)\n\
+(right withdraw %)\n\
+(right grant %)\n\
+(right take %)\n\
+(right lend %)\n\
+(right recall %)\n";
 
-pub const FORM_COUNT: usize = 19;
+pub const FORM_COUNT: usize = 25;
+
+// The forms of rules come first, and a form for each kind of right after them.
+pub const RULE_FORM_COUNT: usize = 19;
 
 // Where each form starts, and where the last one ends.
-pub const STARTS: [usize; 20] = [
+pub const STARTS: [usize; 26] = [
     0,
     22,
     47,
@@ -57,9 +66,15 @@ pub const STARTS: [usize; 20] = [
     517,
     542,
     567,
+    584,
+    603,
+    619,
+    634,
+    649,
+    666,
 ];
 
-// A form and its values, the rule's own number first, 0 where the form has fewer than six.
+// A form and its values, a rule's own number first, 0 where the form has fewer than six.
 pub struct Line {
     pub form: usize,
     pub values: [u64; 6],
@@ -111,6 +126,14 @@ fn short_line(form: usize, number: u64, first: u32, second: u32) -> Line
     ensures { λ l. ⌜ l ≡ line form (number ∷ first ∷ second ∷ 0 ∷ 0 ∷ 0 ∷ []) ⌝ }
 {
     plain_line(form, number, first, second, 0, 0, 0)
+}
+
+// The line of a kind's right.
+pub(crate) fn right_line(kind: usize, permission: u32) -> Line
+    requires { ⌜ kind < 6 ⌝ }
+    ensures { λ l. ⌜ l ≡ rightLine kind permission ⌝ }
+{
+    full_line(RULE_FORM_COUNT + kind, permission as u64, 0, 0, 0, 0, 0)
 }
 
 // The line of a rule under its number.
@@ -220,8 +243,8 @@ pub fn filler() -> Rule
     Rule::MaxRoles { limit: 0 }
 }
 
-// A value as a number of a rule: itself where it is in range.
-fn narrow(value: u64) -> u32
+// A value as a number of a rule or a right: itself where it is in range.
+pub fn narrow(value: u64) -> u32
     ensures { λ r. ⌜ r ≡ narrow value ⌝ }
 {
     (value % 4294967296) as u32

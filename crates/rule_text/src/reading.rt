@@ -1,12 +1,16 @@
-// Reading a rule list: a line at a time, as long as the lines are good.
+// Reading a rule list: its rights, then its rules, a line at a time, as long as the lines are good.
 ghost use mathlib.Core.Path.{_≡_};
 ghost use mathlib.Core.List.{[]};
-ghost use Rattle.rule_text.specs.Reading.{ruleRead, readLine, numberIn, readLines, listOf, prefixOf, readRules};
+ghost use Rattle.rule_text.specs.Reading.{ruleRead, readLine, numberIn, readLines, noRights, listOf, prefixOf, readRules};
 use crate::guesses::likely_form;
 use crate::lines;
 use crate::lines::FORM_COUNT;
 use crate::lines::FORMS;
+use crate::lines::RULE_FORM_COUNT;
 use crate::lines::STARTS;
+use crate::rights::read_rights;
+use rules::Right;
+use rules::RightSlot;
 use rules::Rule;
 use rules::RuleList;
 use rules::Slot;
@@ -22,7 +26,7 @@ pub enum LineRead {
     Bad(u64),
 }
 
-// The good lines at the front of a text: their rules and bytes, the line after them, and its refusal, 0 where the text ends there.
+// The good lines at the front of a text: their rights, rules and bytes, the line after them, and its refusal, 0 where the text ends there.
 pub struct Prefix {
     pub list: RuleList,
     pub length: usize,
@@ -37,7 +41,7 @@ pub struct LoadedRules {
     pub list: RuleList,
 }
 
-// Reads the line at the front of a text, where this number is the next: 10, then 11, then 12, then 13 and 14.
+// Reads the line at the front of a text, where this number is the next and every right was read: 10, then 11, then 12, then 13 and 14.
 fn read_line(text: &[u8], number: u64) -> LineRead
     ensures { λ r. ⌜ r ≡ readLine number (now (text .entry)) ⌝ }
 {
@@ -49,6 +53,9 @@ fn read_line(text: &[u8], number: u64) -> LineRead
     }
     if !forms::line_in_range(&FORMS, &STARTS, form, &values) {
         return LineRead::Bad(11);
+    }
+    if RULE_FORM_COUNT <= form {
+        return LineRead::Bad(12);
     }
     if values[0] != number {
         return LineRead::Bad(12);
@@ -80,15 +87,18 @@ fn number_in(answer: LineRead) -> u64
     }
 }
 
-// The empty list: each slot holds the filler.
+// The empty list: each slot holds the filler, and no right is stated.
 fn no_rules() -> RuleList
-    ensures { λ r. ⌜ r ≡ listOf [] ⌝ }
+    ensures { λ r. ⌜ r ≡ listOf noRights [] ⌝ }
 {
     RuleList {
         slots: [Slot {
             rule: lines::filler(),
         }; 128],
         length: 0,
+        rights: [RightSlot {
+            right: Right::Unstated,
+        }; 6],
     }
 }
 
@@ -96,12 +106,16 @@ fn no_rules() -> RuleList
 pub fn read_prefix(text: &[u8]) -> Prefix
     ensures { λ r. ⌜ r ≡ prefixOf (readLines (now (text .entry))) ⌝ }
 {
+    let read = read_rights(text);
     let mut list = no_rules();
-    let mut rest = text;
-    let mut length: usize = 0;
-    let mut line: usize = 1;
+    let rights = read.rights;
+    list.rights = rights;
+    let mut length = read.length;
+    let mut rest = &text[length..];
+    let mut line = read.lines + 1;
     while 0 < rest.len() {
-        let answer = read_line(rest, line as u64);
+        let at = list.length;
+        let answer = read_line(rest, (at + 1) as u64);
         let LineRead::Good(parsed) = answer else {
             return Prefix {
                 list,
@@ -111,7 +125,6 @@ pub fn read_prefix(text: &[u8]) -> Prefix
             };
         };
         let rule = parsed.rule;
-        let at = list.length;
         list.slots[at] = Slot { rule };
         list.length = at + 1;
         let end = parsed.length;

@@ -2,7 +2,8 @@
 -- Assumes nothing.
 use mathlib.Core.Path.{_≡_, _∙_}
 use denote.Ref.{now}
-use borrow.Author.Tests.{eq-eqb, ne-eqb}
+use native.Mathlib.Omega.{arith}
+use borrow.Author.Tests.{eq-eqb, ne-eqb, le-leb, lt-leb}
 use borrow.Author.Needs.{needs}
 use Rattle.forms.specs.Tables.{found, formAt}
 use Rattle.forms.specs.Forms.{allInRange}
@@ -53,12 +54,16 @@ returns-2 : tie.Need-returns-2
 unfolding readLine lineAfter
 returns-2 c = rw (← found-there (c .before .before .before .before .before .before .before), ne-eqb _ _ (c .before .before .before .before .before .if1 .left), ← ranged-there (c .before), c .if2 .taken)
 
-array-read-if3 : tie.Need-array-read-if3
-array-read-if3 c = search needs
-
 returns-3 : tie.Need-returns-3
 unfolding readLine lineAfter
-returns-3 c = rw (← found-there (c .before .before .before .before .before .before .before .before), ne-eqb _ _ (c .before .before .before .before .before .before .if1 .left), ← ranged-there (c .before .before), c .before .if2 .left, ne-eqb _ _ (c .if3 .taken))
+returns-3 c = let form = c .before .before .before .before .before .before .before .before .find-likely .result .form in rw (← found-there (c .before .before .before .before .before .before .before .before), ne-eqb _ _ (c .before .before .before .before .before .before .if1 .left), ← ranged-there (c .before .before), c .before .if2 .left, le-leb 19 form (omega arith))
+
+array-read-if4 : tie.Need-array-read-if4
+array-read-if4 c = search needs
+
+returns-4 : tie.Need-returns-4
+unfolding readLine lineAfter
+returns-4 c = let form = c .before .before .before .before .before .before .before .before .before .find-likely .result .form in rw (← found-there (c .before .before .before .before .before .before .before .before .before), ne-eqb _ _ (c .before .before .before .before .before .before .before .if1 .left), ← ranged-there (c .before .before .before), c .before .before .if2 .left, lt-leb 19 form (omega arith), ne-eqb _ _ (c .if4 .taken))
 
 rule-of-requires : tie.Need-rule-of-requires
 rule-of-requires c κs = search needs
@@ -66,9 +71,9 @@ rule-of-requires c κs = search needs
 rule-read-requires : tie.Need-rule-read-requires
 rule-read-requires c κs = search needs
 
-returns-4 : tie.Need-returns-4
+returns-5 : tie.Need-returns-5
 unfolding readLine lineAfter
-returns-4 c = rw (← found-there (c .before .before .before .before .before .before .before .before .before .before .before), ne-eqb _ _ (c .before .before .before .before .before .before .before .before .before .if1 .left), ← ranged-there (c .before .before .before .before .before), c .before .before .before .before .if2 .left, eq-eqb _ _ (c .before .before .before .if3 .left), ← c .before .rule-of .ensures) (c .rule-read .ensures)
+returns-5 c = let form = c .before .before .before .before .before .before .before .before .before .before .before .before .find-likely .result .form in rw (← found-there (c .before .before .before .before .before .before .before .before .before .before .before .before), ne-eqb _ _ (c .before .before .before .before .before .before .before .before .before .before .if1 .left), ← ranged-there (c .before .before .before .before .before .before), c .before .before .before .before .before .if2 .left, lt-leb 19 form (omega arith), eq-eqb _ _ (c .before .before .before .if4 .left), ← c .before .rule-of .ensures) (c .rule-read .ensures)
 
 pub read-line-spec : {M : Type 1} → statement M
 read-line-spec =
@@ -84,8 +89,9 @@ read-line-spec =
     slice-aggregate-line-in-range-3
     line-in-range-requires
     returns-2
-    array-read-if3
     returns-3
+    array-read-if4
+    returns-4
     rule-of-requires
     rule-read-requires
-    returns-4)
+    returns-5)

@@ -1,55 +1,22 @@
 -- `rule_text::writing::put_rule` meets its contract.
 -- Assumes nothing.
-use mathlib.Core.Path.{_≡_, ap, sym}
-use mathlib.Core.List.{List}
-use Prim.Native.Nat.{ℕ}
-use denote.Ref.{now}
 use borrow.Author.Needs.{needs}
-use Rattle.forms.specs.Forms.{fill}
-use Rattle.forms.specs.Writing.{Wrote}
-use Rattle.forms.proofs.Puts.{like}
-use Rattle.forms.proofs.Index.{index-line}
-use Rattle.rule_text.specs.Lines.{ruleForms, lineText, ruleText}
-use Rattle.rule_text.proofs.Inverse.{ruleStarts, index-right}
+use Rattle.rule_text.specs.Lines.{ruleText}
 use Rattle.rule_text.proofs.writing.put_rule.Statement.{statement}
 use Rattle.rule_text.proofs.writing.put_rule.Tie as tie
-
-wrote-line : (c : tie.After-write-line) → let line = c .before .before .before .before .before .before .line-of .result in Wrote (now (c .before .before .before .before .before .before .before .before .args .out)) (c .before .before .before .before .before .before .before .before .args .at) (lineText line) (c .write-line .result) (c .write-line .last .1 .1 .1 .1 .0)
-unfolding ruleForms
-wrote-line c =
-    let line = c .before .before .before .before .before .before .line-of .result in
-    like (ap (λ (t : List ℕ). fill t (line .values)) (sym (index-line ruleForms ruleStarts index-right (line .form)))) (c .write-line .ensures)
 
 line-of-requires : tie.Need-line-of-requires
 line-of-requires c κs = search needs
 
-slice-aggregate-write-line : tie.Need-slice-aggregate-write-line
-slice-aggregate-write-line c = search needs
-
-slice-aggregate-write-line-2 : tie.Need-slice-aggregate-write-line-2
-slice-aggregate-write-line-2 c = search needs
-
-slice-aggregate-write-line-3 : tie.Need-slice-aggregate-write-line-3
-slice-aggregate-write-line-3 c = search needs
-
-write-line-requires : tie.Need-write-line-requires
-write-line-requires c κs = search needs
+put-line-requires : tie.Need-put-line-requires
+put-line-requires c κs = search needs
 
 same-length : tie.Need-same-length
 same-length c = search needs
 
 returns : tie.Need-returns
 unfolding ruleText
-returns c = rw (← c .before .before .before .before .before .before .before .before .line-of .ensures) (wrote-line (c .before .before))
+returns c = rw (← c .before .before .before .before .line-of .ensures) (c .before .before .put-line .ensures)
 
 pub put-rule-spec : {M : Type 1} → statement M
-put-rule-spec =
-    tie.close
-    (tie.spec
-    line-of-requires
-    slice-aggregate-write-line
-    slice-aggregate-write-line-2
-    slice-aggregate-write-line-3
-    write-line-requires
-    same-length
-    returns)
+put-rule-spec = tie.close (tie.spec line-of-requires put-line-requires same-length returns)

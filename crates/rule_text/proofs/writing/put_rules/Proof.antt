@@ -10,17 +10,17 @@ use Rattle.rule_text.proofs.writing.put_rules.Statement.{statement}
 use Rattle.rule_text.proofs.writing.put_rules.Tie as tie
 
 abbrev Inv-loop : tie.InvT-loop
-Inv-loop out₀ list length at₀ i₀ out at i = Inv out₀ list out at i
+Inv-loop out₀ start list length at₀ i₀ out at i = Inv out₀ start list out at i
 
 abbrev μ-loop : tie.MeasureT-loop
-μ-loop out₀ list length at₀ i₀ out at i = length - i
+μ-loop out₀ start list length at₀ i₀ out at i = length - i
 
 -- The type fixes the number of slots.
 slots-length : (c : tie.Start Inv-loop μ-loop) → length (c .args .t1 .slots) ≡ 128
 slots-length c = sym (length-map (c .args .t1 .slots) _) ∙ c .good .0 .1 .1 .0 .1 .0 .1
 
 loop-holds : tie.Need-loop-holds Inv-loop μ-loop
-loop-holds c = start _ _
+loop-holds c = start _ _ _ (omega arith)
 
 mul-slot : tie.Need-mul-slot Inv-loop μ-loop
 mul-slot c = search needs
