@@ -24,11 +24,11 @@ use Rattle.steps.specs.declared.answers.Answer.{Answer}
 use Rattle.steps.specs.declared.answers.Answer.the-variants.{Granted, Broken, Refused}
 use Rattle.enforcement.proofs.AnswerFits.{answer-back}
 use Rattle.enforcement.proofs.Reaching.{step-accepted}
-use Rattle.step_text.specs.Lines.{stepForms, formCount, stepFrom, lineAfter, readStep, StepsRead, steps, bad, onto, lineLength, after, readFrom, readSteps, badLine}
+use Rattle.step_text.specs.Lines.{formLines, stepForms, formCount, stepFrom, lineAfter, readStep, StepsRead, steps, bad, onto, lineLength, after, readFrom, readSteps, badLine}
 use Rattle.step_text.specs.Answers.{answerForms, lineText, answerText, badText, answersText}
 use Rattle.step_text.specs.declared.lines.StepRead.{StepRead}
 use Rattle.step_text.specs.declared.lines.StepRead.the-variants.{Good, Bad}
-use Rattle.step_text.proofs.Stepping.{forms-distinct, forms-counted, below}
+use Rattle.step_text.proofs.Stepping.{lines-right, forms-distinct, forms-counted, below}
 
 -- ---- an answer's line
 
@@ -98,8 +98,8 @@ allLong [] = true
 allLong (form ∷ rest) = leb 9 (length form) && allLong rest
 
 forms-long : allLong (linesIn stepForms) ≡ true
-unfolding stepForms linesIn
-forms-long = refl
+unfolding formLines
+forms-long = ap allLong lines-right
 
 long-at : (ts : List (List ℕ)) (k : ℕ) → allLong ts ≡ true → k < length ts → 9 ≤ length (getD ts k [])
 long-at [] k e h = absurd (omega arith)

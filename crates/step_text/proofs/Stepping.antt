@@ -10,7 +10,7 @@ use lib.Dec.{eqb}
 use borrow.Author.Tests.{eqb-false}
 use Rattle.forms.specs.Numbers.{isDigit}
 use Rattle.forms.specs.Kinds.{isSlot, kindOf, lookup}
-use Rattle.forms.specs.Tables.{linesIn, startsOf, found, distinct}
+use Rattle.forms.specs.Tables.{linesIn, startsFrom, startsOf, found, distinct}
 use Rattle.forms.specs.Writing.{lastPlace, Wrote}
 use Rattle.forms.proofs.Finding.{Hits, found-hits}
 use Rattle.forms.proofs.Puts.{like, nothing-written}
@@ -18,7 +18,7 @@ use Rattle.forms.proofs.Turns.{rest}
 use Rattle.rules.specs.declared.lists.RuleList.{RuleList}
 use Rattle.enforcement.specs.Runs.{lastState}
 use Rattle.enforcement.specs.declared.states.State.{State}
-use Rattle.step_text.specs.Lines.{stepForms, formCount, stepFrom, lineAfter, readStep, StepsRead, steps, bad, lineLength, after, readFrom, readSteps, badLine}
+use Rattle.step_text.specs.Lines.{formLines, stepForms, formCount, stepFrom, lineAfter, readStep, StepsRead, steps, bad, lineLength, after, readFrom, readSteps, badLine}
 use Rattle.step_text.specs.Answers.{answersText}
 use Rattle.step_text.specs.Running.{lineRun, runFrom, textRun}
 use Rattle.step_text.specs.declared.lines.StepLine.{StepLine}
@@ -27,21 +27,25 @@ use Rattle.step_text.specs.declared.lines.StepRead.the-variants.{Good, B
 
 -- ---- the table: antt computes the tests
 
+pub lines-right : linesIn stepForms ≡ formLines
+unfolding stepForms formLines linesIn
+lines-right = refl
+
 pub forms-distinct : distinct (linesIn stepForms) ≡ true
-unfolding stepForms linesIn isSlot kindOf lookup isDigit
-forms-distinct = refl
+unfolding formLines isSlot kindOf lookup isDigit
+forms-distinct = ap distinct lines-right
 
 pub forms-counted : length (linesIn stepForms) ≡ formCount
-unfolding stepForms linesIn
-forms-counted = refl
+unfolding formLines
+forms-counted = ap length lines-right
 
 -- the index that the code has is the table's
 abbrev pub stepStarts : List ℕ
-stepStarts = 0 ∷ 13 ∷ 28 ∷ 40 ∷ 51 ∷ 62 ∷ 77 ∷ 94 ∷ 109 ∷ 120 ∷ 130 ∷ 143 ∷ 152 ∷ 162 ∷ 177 ∷ 192 ∷ 207 ∷ []
+stepStarts = 0 ∷ 13 ∷ 28 ∷ 40 ∷ 51 ∷ 62 ∷ 77 ∷ 94 ∷ 109 ∷ 120 ∷ 130 ∷ 143 ∷ 152 ∷ 162 ∷ 177 ∷ 192 ∷ 207 ∷ 227 ∷ 249 ∷ 268 ∷ 286 ∷ 308 ∷ 330 ∷ []
 
 pub index-right : stepStarts ≡ startsOf stepForms
-unfolding stepForms startsOf linesIn
-index-right = refl
+unfolding formLines startsOf
+index-right = ap (λ (l : List (List ℕ)). startsFrom 0 l) (sym lines-right)
 
 -- ---- a good line has a byte at least, and no more than the text
 

@@ -9,6 +9,7 @@ use crate::lines::StepRead;
 use crate::lines::read_step;
 use enforcement::Batch;
 use enforcement::Entry;
+use steps::Acting;
 use steps::Step;
 
 // The steps that were read, and how many bytes their lines have.
@@ -29,6 +30,7 @@ pub fn read_batch(text: &[u8]) -> BatchRead
         fourth: 0,
         x: 0,
         y: 0,
+        by: Acting::Nobody,
     }; 32];
     let mut rest = text;
     let mut count: usize = 0;

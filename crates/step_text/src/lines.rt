@@ -1,11 +1,12 @@
 // A step's line.
 ghost use mathlib.Core.Path.{_≡_};
-ghost use Rattle.step_text.specs.Lines.{readStep, kindFrom, fourthFrom};
+ghost use Rattle.step_text.specs.Lines.{readStep, kindFrom, fourthFrom, kindBehindBy, stepBehindBy};
+use steps::Acting;
 use steps::Step;
 
-// "One form a line", in the order of the table of steps, lend and recall after them, and last a move with its error; each mark stands for
-// a number of its kind.
-const FORMS: [u8; 207] = *b"\
+// "One form a line", in the order of the table of steps, lend and recall after them, then a move with its error, and last the six kinds that
+// can stand behind `by`; each mark stands for a number of its kind.
+const FORMS: [u8; 330] = *b"\
 (assign ? ?)\n\
 (withdraw ? ?)\n\
 (grant ? ?)\n\
@@ -21,17 +22,26 @@ const FORMS: [u8; 207] = *b"\
 (clock ?)\n\
 (lend ? ? ? ?)\n\
 (recall ? ? ?)\n\
-(move ? _ _ `)\n";
+(move ? _ _ `)\n\
+(by ? (assign ? ?))\n\
+(by ? (withdraw ? ?))\n\
+(by ? (grant ? ?))\n\
+(by ? (take ? ?))\n\
+(by ? (lend ? ? ? ?))\n\
+(by ? (recall ? ? ?))\n";
 
-const FORM_COUNT: usize = 16;
+const FORM_COUNT: usize = 22;
 
 // The two forms of a move, without and with its error.
 const MOVE: usize = 10;
 
 const MOVE_WITH_ERROR: usize = 15;
 
+// The first of the forms with `by`.
+const BEHIND_BY: usize = 16;
+
 // Where each form starts, and where the last one ends.
-const STARTS: [usize; 17] = [
+const STARTS: [usize; 23] = [
     0,
     13,
     28,
@@ -49,6 +59,12 @@ const STARTS: [usize; 17] = [
     177,
     192,
     207,
+    227,
+    249,
+    268,
+    286,
+    308,
+    330,
 ];
 
 // A good line: its step, and how many bytes it has.
@@ -72,6 +88,12 @@ pub fn read_step(text: &[u8]) -> StepRead
         return StepRead::Bad(10);
     }
     let values = found.values;
+    if BEHIND_BY <= form {
+        return StepRead::Good(StepLine {
+            step: step_behind_by(form, values),
+            length: found.length,
+        });
+    }
     let step = Step {
         kind: kind_of(form),
         first: values[0],
@@ -80,6 +102,7 @@ pub fn read_step(text: &[u8]) -> StepRead
         fourth: fourth_of(form, values[3]),
         x: forms::signed_value(values[1]),
         y: forms::signed_value(values[2]),
+        by: Acting::Nobody,
     };
     StepRead::Good(StepLine {
         step,
@@ -87,7 +110,7 @@ pub fn read_step(text: &[u8]) -> StepRead
     })
 }
 
-// A form's number is its kind's, but for the second form of a move.
+// Without `by`, a form's number is its kind's, but for the second form of a move.
 fn kind_of(form: usize) -> u64
     ensures { λ r. ⌜ r ≡ kindFrom form ⌝ }
 {
@@ -107,11 +130,41 @@ fn fourth_of(form: usize, value: u64) -> u64
     value
 }
 
-// Which form a step's line likely has, by the third and fourth letters of its word, and a move's by its spaces. A wrong guess costs time
-// and nothing else.
+// The acting session's number stands before the step's own.
+fn step_behind_by(form: usize, values: [u64; 6]) -> Step
+    ensures { λ r. ⌜ r ≡ stepBehindBy form values ⌝ }
+{
+    Step {
+        kind: kind_behind_by(form),
+        first: values[1],
+        second: values[2],
+        third: values[3],
+        fourth: values[4],
+        x: 0,
+        y: 0,
+        by: Acting::InSession(values[0]),
+    }
+}
+
+fn kind_behind_by(form: usize) -> u64
+    ensures { λ r. ⌜ r ≡ kindBehindBy form ⌝ }
+{
+    match form {
+        16 => Step::ASSIGN,
+        17 => Step::WITHDRAW,
+        18 => Step::GRANT,
+        19 => Step::TAKE,
+        20 => Step::LEND,
+        _ => Step::RECALL,
+    }
+}
+
+// Which form a step's line likely has, by the third and fourth letters of its word, and a move's by its spaces; after `by` a space stands
+// third. A wrong guess costs time and nothing else.
 fn likely_form(text: &[u8]) -> usize {
     let fourth = byte_at(text, 4);
     match byte_at(text, 3) {
+        b' ' => likely_behind_by(text),
         b'a' => first_or(fourth == b'n', 2, 6),
         b'c' => first_or(fourth == b'e', 7, 14),
         b'e' => 4,
@@ -122,6 +175,29 @@ fn likely_form(text: &[u8]) -> usize {
         b't' => first_or(fourth == b'i', 5, 1),
         _ => first_or(spaces_in_line(text) == 4, MOVE_WITH_ERROR, MOVE),
     }
+}
+
+fn likely_behind_by(text: &[u8]) -> usize {
+    match letter_behind_by(text) {
+        b'a' => 18,
+        b'c' => 21,
+        b'k' => 19,
+        b'n' => 20,
+        b's' => 16,
+        _ => 17,
+    }
+}
+
+// The third letter of the word behind `by`, whose session has one to ten digits.
+fn letter_behind_by(text: &[u8]) -> u8 {
+    let mut i: usize = 6;
+    while i < 16 {
+        if byte_at(text, i) == b'(' {
+            return byte_at(text, i + 3);
+        }
+        i += 1;
+    }
+    0
 }
 
 // The spaces of the first line, as far as a move can reach.
