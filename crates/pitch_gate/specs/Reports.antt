@@ -17,7 +17,7 @@ use Rattle.texts.specs.declared.saved_runs.Report.{Report}
 
 -- 2.1.0
 abbrev pub version : ℕ
-version = 20100
+version = 20200
 
 -- ---- a report as numbers
 

@@ -14,8 +14,8 @@ use forms::Written;
 use texts::Report;
 use texts::Text;
 
-// 10,000 for each major version, 100 for each minor one and 1 for each correction: this is 2.1.0.
-const VERSION: u64 = 20_100;
+// 10,000 for each major version, 100 for each minor one and 1 for each correction: this is 2.2.0.
+const VERSION: u64 = 20_200;
 
 // The version of the library that is linked.
 #[no_mangle]

@@ -9,10 +9,15 @@ use native.Mathlib.Omega.{arith}
 use lib.ListN.{length}
 use Rattle.rules.specs.Acceptance.{listAccepted}
 use Rattle.rules.specs.declared.lists.RuleList.{RuleList}
+use Rattle.steps.specs.declared.steps.Step.{Step}
 use Rattle.enforcement.specs.States.{fresh}
+use Rattle.enforcement.specs.Gate.{runOf}
+use Rattle.enforcement.specs.Runs.{lastState}
 use Rattle.enforcement.specs.Reached.{Reached}
+use Rattle.enforcement.specs.Safety.{AllRights, HoldsNoRight, OwnSteps, Unchanged}
 use Rattle.enforcement.specs.declared.states.State.{State}
 use Rattle.enforcement.proofs.Reaching.{Good, reached-good}
+use Rattle.enforcement.proofs.Safety.{safety}
 use Rattle.forms.specs.Numbers.{digitsOf, digitsWithin}
 use Rattle.forms.specs.Kinds.{kindOf, lookup, isSlot}
 use Rattle.forms.specs.Forms.{textBy, itemText, fill}
@@ -80,6 +85,11 @@ module _ (list : RuleList) where
   -- state, and its text the same bytes
   pub rule-keeper : listAccepted list ≡ true → {s : State} → Reached list (ReadUnder list) s → (t : State) × (readState list (savedText s) ≡ loaded t) × (t ≡ s) × (savedText t ≡ savedText s)
   rule-keeper listed {s} reached = (s, read-back listed reached, refl, refl)
+
+-- 2026-05: "from a state reached by the gate": from fresh, or from a saved text that was read under the rules in force
+pub saved-safety : (list : RuleList) → listAccepted list ≡ true → {s : State} → Reached list (ReadUnder list) s →
+    (u : ℕ) → AllRights list → HoldsNoRight list s u → (steps : List Step) → OwnSteps u list s steps → Unchanged s (lastState s (runOf list s steps))
+saved-safety list listed = safety list listed (ReadUnder list) (λ s read. read-accepted list (read .0) s (read .1))
 
 -- "Fresh is `(now 0)`."
 pub fresh-text : savedText fresh ≡ bytes "(now 0)\n"

@@ -4,6 +4,8 @@
 ghost use mathlib.Core.Path.{_≡_};
 ghost use lib.ListN.{length};
 use forms::Written;
+use rules::Right;
+use rules::RightSlot;
 use rules::Rule;
 use rules::RuleList;
 use rules::Slot;
@@ -120,6 +122,9 @@ fn no_rules() -> RuleList {
             rule: Rule::MaxRoles { limit: 32 },
         }; 128],
         length: 0,
+        rights: [RightSlot {
+            right: Right::Unstated,
+        }; 6],
     }
 }
 

@@ -1,7 +1,7 @@
 -- `(bad number line)` is printed exactly where the input has that cause; and else the answers to its steps.
 -- Assumes nothing.
 use mathlib.Core.Path.{_≡_, refl, sym, ap, _∙_, subst}
-use mathlib.Core.Bool.{Bool, true, false, _&&_}
+use mathlib.Core.Bool.{Bool, true, false}
 use mathlib.Core.List.{List, [], _∷_, _++_, append-nil}
 use mathlib.Core.Logic.{_↔_, _⊎_, inl, inr}
 use Prim.Native.Nat.{ℕ, zero, suc, _+_, _/_, _%_, _≤_, _<_}
@@ -9,34 +9,35 @@ use native.Mathlib.Omega.{arith}
 use lib.ListN.{length, drop, getD, length-append}
 use lib.Seq.{drop-append-seam}
 use lib.Dec.{eqb, ltb}
-use borrow.Author.Tests.{lt-ltb, ltb-true, ltb-false, le-leb, eqb-true, eq-eqb, ne-eqb}
-use Rattle.sets.proofs.Booleans.{both, both-true, clash}
-use Rattle.forms.specs.Numbers.{digitsOf, isDigit, readByte}
+use borrow.Author.Tests.{lt-ltb, ltb-true, ltb-false, eqb-true, eq-eqb, ne-eqb}
+use Rattle.sets.proofs.Booleans.{clash}
+use Rattle.forms.specs.Numbers.{digitsOf, readByte}
 use Rattle.forms.specs.Kinds.{isSlot, kindOf, lookup}
 use Rattle.forms.specs.Forms.{head, tail, textBy, itemText, readBy, readItem, fill, scan, scanned}
 use Rattle.forms.specs.Tables.{bytes, linesIn, formAt, findIn, found}
 use Rattle.forms.proofs.Digits.{digits-small, digits-step, digits-pos}
 use Rattle.forms.proofs.Finding.{found-hits}
 use Rattle.rules.specs.declared.families.Rule.{Rule}
+use Rattle.rules.specs.declared.rights.RightSlot.{RightSlot}
 use Rattle.rules.specs.declared.lists.RuleList.{RuleList}
-use Rattle.steps.specs.declared.actions.Action.{Action}
 use Rattle.enforcement.specs.States.{fresh}
 use Rattle.enforcement.specs.Gate.{runOf}
 use Rattle.steps.specs.declared.steps.Step.{Step}
 use Rattle.enforcement.specs.declared.states.Next.{Next}
 use Rattle.steps.specs.declared.answers.Answer.{Answer}
 use Rattle.steps.specs.declared.answers.Answer.the-variants.{Granted, Broken, Refused}
-use Rattle.rule_text.specs.Lines.{ruleForms, listText}
+use Rattle.rule_text.specs.Lines.{ruleForms, linesText, nextLine}
 use Rattle.rule_text.specs.Reading.{LinesRead, lineAfter, readLine, readLines, listOf}
 use Rattle.rule_text.specs.Causes.{Cause}
 use Rattle.rule_text.specs.declared.reading.LineRead.the-variants.{Bad}
-use Rattle.rule_text.proofs.Causes.{line-refused}
+use Rattle.rule_text.proofs.Causes.{no-form-there}
 use Rattle.rule_text.proofs.Lists.{Reads, cause-some, reads-lines, reads-rest, reads-whole, reads-until}
 use Rattle.step_text.specs.Lines.{StepsRead, steps, bad, readSteps}
-use Rattle.step_text.specs.Rows.{lineWith}
+use Rattle.step_text.specs.Rows.{Row, lineWith}
 use Rattle.step_text.specs.Causes.{AllNumbers}
 use Rattle.step_text.specs.Answers.{answerForms, lineText, answerText, answersText}
 use Rattle.step_text.proofs.Causes.{steps-10, one-list, steps-lines, steps-good}
+use Rattle.step_text.proofs.DigitRuns.{digits-all, split, no-space, no-bracket}
 use Rattle.step_text.proofs.Printed.{bad-line}
 use Rattle.texts.specs.Response.{stepsForm, startsSteps, Outcome, badAt, ran, stepsOutcome, numberWithoutSteps, afterRules, outcomeOf, outcomeText, responseOf}
 use Rattle.texts.specs.Causes.{RulesThen, BadInput, too-long, missing-steps, bad-rule, bad-step, RunsSteps}
@@ -92,41 +93,43 @@ number-some n h = rw (ne-eqb n 0 (λ e. omega arith))
 
 abbrev Says : List ℕ → Outcome → Type 0
 Says input (badAt number line) = BadInput input number line
-Says input (ran list read) = (lines : List Action) × RunsSteps input list lines × AllNumbers read lines
+Says input (ran list read) = (lines : List Row) × RunsSteps input list lines × AllNumbers read lines
 
 module _ (input : List ℕ) (short : length input ≤ 65536) where
+  abbrev rights : List RightSlot
+  rights = readLines input .rights
+
   abbrev rules : List Rule
   rules = readLines input .rules
 
-  abbrev lines : Reads 1 input (readLines input)
+  abbrev lines : Reads input (readLines input)
   lines = reads-lines input
 
-  rules-then : RulesThen input rules (lines .rest)
-  rules-then = record { few = omega (arith, lines .few); accepted = lines .accepted; reads = lines .reads }
+  rules-then : RulesThen input rights rules (lines .rest)
+  rules-then = record { good = lines .good; reads = lines .reads }
 
   after-lines : outcomeOf input ≡ afterRules (readLines input) (lines .rest)
   after-lines = not-too-long input short ∙ ap (afterRules (readLines input)) (reads-rest input)
 
-  steps-say : (text : List ℕ) → lines .rest ≡ bytes "(steps)\n" ++ text → (r : StepsRead) → readSteps 1 text ≡ r → Says input (stepsOutcome (listOf rules) (suc (length rules)) r)
+  steps-say : (text : List ℕ) → lines .rest ≡ bytes "(steps)\n" ++ text → (r : StepsRead) → readSteps 1 text ≡ r → Says input (stepsOutcome (listOf rights rules) (nextLine rights rules) r)
   unfolding stepsOutcome
   steps-say text there (steps read) e =
       let said = steps-lines 1 text read e in
-      (said .0, record { short = short; rules = rules; text = text; before = rw there at rules-then; same = refl; given = said .1 }, said .2)
-  steps-say text there (bad k) e = bad-step rules text k short (rw there at rules-then) (steps-10 1 text k .0 e)
+      (said .0, record { short = short; rights = rights; rules = rules; text = text; before = rw there at rules-then; same = refl; given = said .1 }, said .2)
+  steps-say text there (bad k) e = bad-step rights rules text k short (rw there at rules-then) (steps-10 1 text k .0 e)
 
-  other-says : startsSteps (lines .rest) ≡ false → Says input (badAt (numberWithoutSteps (readLines input .number)) (suc (length rules)))
+  other-says : startsSteps (lines .rest) ≡ false → Says input (badAt (numberWithoutSteps (readLines input .number)) (nextLine rights rules))
   other-says none = go (lines .stops)
     where
       not-there : (more : List ℕ) → lines .rest ≡ bytes "(steps)\n" ++ more → ⊥
       not-there more e = clash (starts-means (lines .rest) .1 (more, e)) none
 
-      go : ((readLines input .number ≡ 0) × (lines .rest ≡ [])) ⊎ ((0 < length (lines .rest)) × Cause (1 + length rules) (lines .rest) (readLines input .number))
-          → BadInput input (numberWithoutSteps (readLines input .number)) (suc (length rules))
-      go (inl stop) = rw (number-zero (readLines input .number) (stop .0)) (missing-steps rules short (rw (stop .1) at rules-then))
+      go : ((readLines input .number ≡ 0) × (lines .rest ≡ [])) ⊎ ((0 < length (lines .rest)) × Cause rights (suc (length rules)) (lines .rest) (readLines input .number))
+          → BadInput input (numberWithoutSteps (readLines input .number)) (nextLine rights rules)
+      go (inl stop) = rw (number-zero (readLines input .number) (stop .0)) (missing-steps rights rules short (rw (stop .1) at rules-then))
       go (inr stop) =
-          let next : 1 + length rules ≡ suc (length rules) = omega arith in
           rw (number-some (readLines input .number) (cause-some (stop .1)))
-          (bad-rule (readLines input .number) rules (lines .rest) short rules-then (stop .0) not-there (rw next at (stop .1)))
+          (bad-rule (readLines input .number) rights rules (lines .rest) short rules-then (stop .0) not-there (stop .1))
 
   short-says : Says input (outcomeOf input)
   short-says = go (startsSteps (lines .rest)) refl
@@ -135,7 +138,7 @@ module _ (input : List ℕ) (short : length input ≤ 65536) where
       go true e =
           let there = starts-means (lines .rest) .0 e in
           let rest : drop 8 (lines .rest) ≡ there .0 = ap (drop 8) (there .1) in
-          subst (Says input) (sym (after-lines ∙ with-steps (readLines input) (lines .rest) e ∙ ap (λ (t : List ℕ). stepsOutcome (listOf rules) (suc (length rules)) (readSteps 1 t)) rest))
+          subst (Says input) (sym (after-lines ∙ with-steps (readLines input) (lines .rest) e ∙ ap (λ (t : List ℕ). stepsOutcome (listOf rights rules) (nextLine rights rules) (readSteps 1 t)) rest))
           (steps-say (there .0) (there .1) (readSteps 1 (there .0)) refl)
       go false e = subst (Says input) (sym (after-lines ∙ without-steps (readLines input) (lines .rest) e)) (other-says e)
 
@@ -149,46 +152,46 @@ says input = go (ltb 65536 (length input)) refl
 
 -- ---- and what has a cause comes so
 
-module _ (input : List ℕ) (short : length input ≤ 65536) (rules : List Rule) (rest : List ℕ) (then : RulesThen input rules rest) where
+module _ (input : List ℕ) (short : length input ≤ 65536) (rights : List RightSlot) (rules : List Rule) (rest : List ℕ) (then : RulesThen input rights rules rest) where
   abbrev stopped : ℕ → LinesRead
-  stopped number = record { rules = rules; length = length (listText 1 rules); number = number }
+  stopped number = record { rights = rights; rules = rules; length = length (linesText rights rules); number = number }
 
   came : (number : ℕ) → readLines input ≡ stopped number → outcomeOf input ≡ afterRules (stopped number) rest
   came number e =
       not-too-long input short ∙ ap (λ (l : LinesRead). afterRules l (drop (l .length) input)) e
-      ∙ ap (afterRules (stopped number)) (ap (drop (length (listText 1 rules))) (then .reads) ∙ drop-append-seam (listText 1 rules) rest)
+      ∙ ap (afterRules (stopped number)) (ap (drop (length (linesText rights rules))) (then .reads) ∙ drop-append-seam (linesText rights rules) rest)
 
-  stopped-by : (number : ℕ) → 0 < length rest → Cause (suc (length rules)) rest number → readLines input ≡ stopped number
-  stopped-by number some cause = ap readLines (then .reads) ∙ reads-until rules (then .few) (then .accepted) rest number some cause
+  stopped-by : (number : ℕ) → 0 < length rest → Cause rights (suc (length rules)) rest number → readLines input ≡ stopped number
+  stopped-by number some cause = ap readLines (then .reads) ∙ reads-until rights rules (then .good) rest number some cause
 
-with-steps-line : (input : List ℕ) → length input ≤ 65536 → (rules : List Rule) (text : List ℕ) → RulesThen input rules (bytes "(steps)\n" ++ text)
-    → outcomeOf input ≡ stepsOutcome (listOf rules) (suc (length rules)) (readSteps 1 text)
-with-steps-line input short rules text then =
+with-steps-line : (input : List ℕ) → length input ≤ 65536 → (rights : List RightSlot) (rules : List Rule) (text : List ℕ) → RulesThen input rights rules (bytes "(steps)\n" ++ text)
+    → outcomeOf input ≡ stepsOutcome (listOf rights rules) (nextLine rights rules) (readSteps 1 text)
+with-steps-line input short rights rules text then =
     let rest = bytes "(steps)\n" ++ text in
-    let cause = line-refused (suc (length rules)) rest 10 .0 (no-rule (suc (length rules)) text) in
-    came input short rules rest then 10 (stopped-by input short rules rest then 10 (omega arith) cause)
-    ∙ with-steps (stopped input short rules rest then 10) rest (starts-here text)
+    let cause = no-form-there rights (suc (length rules)) rest (no-rule (suc (length rules)) text) in
+    came input short rights rules rest then 10 (stopped-by input short rights rules rest then 10 (omega arith) cause)
+    ∙ with-steps (stopped input short rights rules rest then 10) rest (starts-here text)
 
 caused : (input : List ℕ) {number line : ℕ} → BadInput input number line → outcomeOf input ≡ badAt number line
 unfolding outcomeOf stepsOutcome
 caused input (too-long h) = rw (lt-ltb 65536 (length input) h)
-caused input (missing-steps rules short then) =
-    came input short rules [] then 0 (ap readLines (then .reads ∙ append-nil (listText 1 rules)) ∙ reads-whole rules (then .few) (then .accepted))
-    ∙ without-steps (stopped input short rules [] then 0) [] (starts-not [] (λ more e. differ cc))
+caused input (missing-steps rights rules short then) =
+    came input short rights rules [] then 0 (ap readLines (then .reads ∙ append-nil (linesText rights rules)) ∙ reads-whole rights rules (then .good))
+    ∙ without-steps (stopped input short rights rules [] then 0) [] (starts-not [] (λ more e. differ cc))
     ∙ rw (number-zero 0 refl)
-caused input (bad-rule number rules rest short then some not-there cause) =
-    came input short rules rest then number (stopped-by input short rules rest then number some cause)
-    ∙ without-steps (stopped input short rules rest then number) rest (starts-not rest not-there)
+caused input (bad-rule number rights rules rest short then some not-there cause) =
+    came input short rights rules rest then number (stopped-by input short rights rules rest then number some cause)
+    ∙ without-steps (stopped input short rights rules rest then number) rest (starts-not rest not-there)
     ∙ rw (number-some number (cause-some cause))
-caused input (bad-step rules text n short then first) =
-    with-steps-line input short rules text then ∙ rw (steps-10 1 text n .1 first)
+caused input (bad-step rights rules text n short then first) =
+    with-steps-line input short rights rules text then ∙ rw (steps-10 1 text n .1 first)
 
 -- what is bad, and at which line, is its own cause
 pub bad-outcome : (input : List ℕ) (number line : ℕ) → (outcomeOf input ≡ badAt number line) ↔ BadInput input number line
 bad-outcome input number line = (λ e. subst (Says input) e (says input), caused input)
 
 -- and where nothing is, steps run that have the kinds and numbers of the lines
-pub ran-outcome : (input : List ℕ) (list : RuleList) (lines : List Action) → ((read : List Step) × (outcomeOf input ≡ ran list read) × AllNumbers read lines) ↔ RunsSteps input list lines
+pub ran-outcome : (input : List ℕ) (list : RuleList) (lines : List Row) → ((read : List Step) × (outcomeOf input ≡ ran list read) × AllNumbers read lines) ↔ RunsSteps input list lines
 unfolding stepsOutcome
 ran-outcome input list lines = (there, came-so)
   where
@@ -198,43 +201,9 @@ ran-outcome input list lines = (there, came-so)
     came-so : RunsSteps input list lines → (read : List Step) × (outcomeOf input ≡ ran list read) × AllNumbers read lines
     came-so runs =
         let read = steps-good 1 (runs .text) lines .1 (runs .given) in
-        (read .0, with-steps-line input (runs .short) (runs .rules) (runs .text) (runs .before) ∙ rw (read .1, runs .same), read .2)
+        (read .0, with-steps-line input (runs .short) (runs .rights) (runs .rules) (runs .text) (runs .before) ∙ rw (read .1, runs .same), read .2)
 
 -- ---- what is printed says what came
-
-abbrev allDigits : List ℕ → Bool
-allDigits [] = true
-allDigits (c ∷ s) = isDigit c && allDigits s
-
-digits-append : (x y : List ℕ) → allDigits x ≡ true → allDigits y ≡ true → allDigits (x ++ y) ≡ true
-digits-append [] y a b = b
-digits-append (c ∷ x) y a b = let p = both (isDigit c) (allDigits x) a in both-true (isDigit c) (allDigits (x ++ y)) (p .0) (digits-append x y (p .1) b)
-
-one-digit : (d : ℕ) → d < 10 → allDigits ((48 + d) ∷ []) ≡ true
-unfolding isDigit
-one-digit d h = rw (le-leb 48 (48 + d) (omega arith), le-leb (48 + d) 57 (omega arith))
-
-digits-all : (bound v : ℕ) → v ≤ bound → allDigits (digitsOf v) ≡ true
-digits-all zero v h = rw (digits-small v (omega arith)) (one-digit v (omega arith))
-digits-all (suc bound) v h = go (ltb v 10) refl (λ l. digits-all bound (v / 10) l)
-  where
-    go : (b : Bool) → ltb v 10 ≡ b → (v / 10 ≤ bound → allDigits (digitsOf (v / 10)) ≡ true) → allDigits (digitsOf v) ≡ true
-    go true e next = let l = ltb-true v 10 e in rw (digits-small v l) (one-digit v l)
-    go false e next =
-        let l : 10 ≤ v = ltb-false v 10 e in
-        let less : v / 10 ≤ bound = omega arith in
-        let last : v % 10 < 10 = omega arith in
-        rw (digits-step v l) (digits-append (digitsOf (v / 10)) ((48 + v % 10) ∷ []) (next less) (one-digit (v % 10) last))
-
--- digits end at the first byte that is none
-split : (z : ℕ) → isDigit z ≡ false → (x y p q : List ℕ) → allDigits x ≡ true → allDigits y ≡ true → x ++ (z ∷ p) ≡ y ++ (z ∷ q) → (x ≡ y) × (p ≡ q)
-split z n [] [] p q a b e = (refl, ap tail e)
-split z n [] (d ∷ y) p q a b e = clash (both (isDigit d) (allDigits y) b .0) (ap isDigit (sym (ap head e)) ∙ n)
-split z n (c ∷ x) [] p q a b e = clash (both (isDigit c) (allDigits x) a .0) (ap isDigit (ap head e) ∙ n)
-split z n (c ∷ x) (d ∷ y) p q a b e =
-    let later = split z n x y p q (both (isDigit c) (allDigits x) a .1) (both (isDigit d) (allDigits y) b .1) (ap tail e) in
-    let first : c ≡ d = ap head e in
-    (rw (first, later .0), later .1)
 
 last-byte : (x y : List ℕ) (a b : ℕ) → x ++ (a ∷ []) ≡ y ++ (b ∷ []) → (x ≡ y) × (a ≡ b)
 last-byte [] [] a b e = (refl, ap head e)
@@ -272,14 +241,6 @@ digits-same (suc bound) a b h e = go (ltb a 10) refl (ltb b 10) refl (λ l q. di
         let low : a % 10 ≡ b % 10 = omega (arith, parts .1) in
         omega arith
 
-no-space : isDigit 32 ≡ false
-unfolding isDigit
-no-space = refl
-
-no-bracket : isDigit 41 ≡ false
-unfolding isDigit
-no-bracket = refl
-
 bad-same : (a b c d : ℕ) → lineWith "bad" (digitsOf a ∷ digitsOf b ∷ []) ≡ lineWith "bad" (digitsOf c ∷ digitsOf d ∷ []) → (a ≡ c) × (b ≡ d)
 bad-same a b c d e =
     let first = split 32 no-space (digitsOf a) (digitsOf c) (digitsOf b ++ bytes ")\n") (digitsOf d ++ bytes ")\n") (digits-all a a (omega arith)) (digits-all c c (omega arith)) (ap (drop 5) e) in
@@ -310,15 +271,15 @@ bad-printed input number line = (printed (outcomeOf input) (says input), λ caus
     printed (ran list read) said e = absurd (answers-second (runOf list fresh read) (ap (λ (t : List ℕ). getD t 1 0) e))
 
 -- and else it is the answers to the steps
-pub answers-printed : (input : List ℕ) (list : RuleList) (lines : List Action) → RunsSteps input list lines
+pub answers-printed : (input : List ℕ) (list : RuleList) (lines : List Row) → RunsSteps input list lines
     → (read : List Step) × AllNumbers read lines × (responseOf input ≡ answersText (runOf list fresh read))
 unfolding outcomeText
 answers-printed input list lines runs = let ran-so = ran-outcome input list lines .1 runs in (ran-so .0, ran-so .2, ap outcomeText (ran-so .1))
 
 -- one of the two it is
-pub bad-or-answered : (input : List ℕ) → ((number : ℕ) × (line : ℕ) × BadInput input number line) ⊎ ((list : RuleList) × (lines : List Action) × RunsSteps input list lines)
+pub bad-or-answered : (input : List ℕ) → ((number : ℕ) × (line : ℕ) × BadInput input number line) ⊎ ((list : RuleList) × (lines : List Row) × RunsSteps input list lines)
 bad-or-answered input = go (outcomeOf input) (says input)
   where
-    go : (o : Outcome) → Says input o → ((number : ℕ) × (line : ℕ) × BadInput input number line) ⊎ ((list : RuleList) × (lines : List Action) × RunsSteps input list lines)
+    go : (o : Outcome) → Says input o → ((number : ℕ) × (line : ℕ) × BadInput input number line) ⊎ ((list : RuleList) × (lines : List Row) × RunsSteps input list lines)
     go (badAt number line) said = inl (number, line, said)
     go (ran list read) said = inr (list, said .0, said .1)

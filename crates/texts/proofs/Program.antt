@@ -3,7 +3,7 @@ use mathlib.Core.Path.{_≡_, refl, sym, ap, _∙_, subst}
 use mathlib.Core.Bool.{Bool, true, false, cond, false≢true}
 use mathlib.Core.List.{List, [], _∷_}
 use mathlib.Core.Logic.{_↔_}
-use Prim.Native.Nat.{ℕ, suc, _+_, _≤_, _<_}
+use Prim.Native.Nat.{ℕ, _+_, _≤_, _<_}
 use native.Mathlib.Omega.{arith}
 use lib.ListN.{length, drop}
 use lib.Dec.{leb, ltb}
@@ -14,6 +14,7 @@ use Rattle.forms.specs.declared.writing.Written.the-variants.{Length, Refused}
 use Rattle.rules.specs.Acceptance.{listAccepted}
 use Rattle.rules.specs.declared.lists.RuleList.{RuleList}
 use Rattle.steps.specs.declared.steps.Step.{Step}
+use Rattle.rule_text.specs.Lines.{nextLine}
 use Rattle.rule_text.specs.Reading.{LinesRead, readLines, listOf, prefixOf}
 use Rattle.rule_text.proofs.Back.{prefix-accepted}
 use Rattle.step_text.specs.Lines.{StepsRead, steps, bad, readSteps}
@@ -51,7 +52,7 @@ unfolding afterRules
 late-after input = go (startsSteps (drop (readLines input .length) input)) (readSteps 1 (drop 8 (drop (readLines input .length) input)))
   where
     go : (b : Bool) (r : StepsRead)
-        → isLate (cond b (stepsOutcome (listOf (readLines input .rules)) (suc (length (readLines input .rules))) r) (badAt (numberWithoutSteps (readLines input .number)) (suc (length (readLines input .rules))))) ≡ true
+        → isLate (cond b (stepsOutcome (listOf (readLines input .rights) (readLines input .rules)) (nextLine (readLines input .rights) (readLines input .rules)) r) (badAt (numberWithoutSteps (readLines input .number)) (nextLine (readLines input .rights) (readLines input .rules)))) ≡ true
     go false r = lt-ltb (numberWithoutSteps (readLines input .number)) 19 (omega (arith, number-small input))
     go true (steps read) = unfold stepsOutcome in refl
     go true (bad k) = unfold stepsOutcome in refl
@@ -84,22 +85,22 @@ ran-accepted input list read e =
     isRan (ran l r) = true
 
     listRun : Outcome → RuleList
-    listRun (badAt number line) = listOf []
+    listRun (badAt number line) = listOf [] []
     listRun (ran l r) = l
 
-    accepted : listAccepted (listOf (readLines input .rules)) ≡ true
+    accepted : listAccepted (listOf (readLines input .rights) (readLines input .rules)) ≡ true
     accepted = unfold prefixOf in prefix-accepted input
 
     go : (x y : Bool) (r : StepsRead)
-        → cond x (badAt 19 0) (cond y (stepsOutcome (listOf (readLines input .rules)) (suc (length (readLines input .rules))) r) (badAt (numberWithoutSteps (readLines input .number)) (suc (length (readLines input .rules))))) ≡ ran list read
+        → cond x (badAt 19 0) (cond y (stepsOutcome (listOf (readLines input .rights) (readLines input .rules)) (nextLine (readLines input .rights) (readLines input .rules)) r) (badAt (numberWithoutSteps (readLines input .number)) (nextLine (readLines input .rights) (readLines input .rules)))) ≡ ran list read
         → listAccepted list ≡ true
     go true y r h = absurd (false≢true (ap isRan h))
     go false false r h = absurd (false≢true (ap isRan h))
     go false true (bad k) h = absurd (false≢true (ap isRan (sym (bad-outcome k) ∙ h)))
       where
-        bad-outcome : (k : ℕ) → stepsOutcome (listOf (readLines input .rules)) (suc (length (readLines input .rules))) (bad k) ≡ badAt 10 (suc (length (readLines input .rules)) + k)
+        bad-outcome : (k : ℕ) → stepsOutcome (listOf (readLines input .rights) (readLines input .rules)) (nextLine (readLines input .rights) (readLines input .rules)) (bad k) ≡ badAt 10 (nextLine (readLines input .rights) (readLines input .rules) + k)
         bad-outcome k = unfold stepsOutcome in refl
     go false true (steps s) h = subst (λ (l : RuleList). listAccepted l ≡ true) (ap listRun (sym ran-outcome ∙ h)) accepted
       where
-        ran-outcome : stepsOutcome (listOf (readLines input .rules)) (suc (length (readLines input .rules))) (steps s) ≡ ran (listOf (readLines input .rules)) s
+        ran-outcome : stepsOutcome (listOf (readLines input .rights) (readLines input .rules)) (nextLine (readLines input .rights) (readLines input .rules)) (steps s) ≡ ran (listOf (readLines input .rights) (readLines input .rules)) s
         ran-outcome = unfold stepsOutcome in refl

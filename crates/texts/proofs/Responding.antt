@@ -20,11 +20,12 @@ use Rattle.enforcement.specs.States.{fresh}
 use Rattle.enforcement.specs.Gate.{runOf}
 use Rattle.enforcement.specs.declared.states.State.{State}
 use Rattle.enforcement.proofs.Kept.{fresh-accepted}
-use Rattle.rule_text.specs.Causes.{Cause, no-form, out-of-range, not-next, same-twice, unsound}
+use Rattle.rule_text.specs.Causes.{Cause}
 use Rattle.rule_text.specs.Reading.{LinesRead, readLines, listOf, prefixOf}
-use Rattle.rule_text.specs.Lines.{listText}
+use Rattle.rule_text.specs.Lines.{linesText, nextLine}
 use Rattle.rule_text.specs.declared.reading.Prefix.{Prefix}
-use Rattle.rule_text.proofs.Lists.{Reads, reads-lines}
+use Rattle.rule_text.proofs.RightLists.{lines-few}
+use Rattle.rule_text.proofs.Lists.{reads-lines, cause-number}
 use Rattle.step_text.specs.Lines.{StepsRead, steps, bad, readSteps, badLine}
 use Rattle.step_text.specs.Answers.{badText, answersText}
 use Rattle.step_text.specs.Running.{textRun}
@@ -84,22 +85,25 @@ module _ (list : RuleList) (line : ℕ) (text : List ℕ) (b : ℕ) (e : b ≡ b
       go (steps read) w q = omega arith
       go (bad k) w q = omega arith
 
--- ---- the rules before them
+-- ---- the rights and rules before them
 
-pub lines-few : (input : List ℕ) → suc (length (readLines input .rules)) ≤ 129
-lines-few input = omega (arith, reads-lines input .few)
+-- at most six lines of rights, 128 of rules, and the line after them
+pub line-most : (input : List ℕ) → nextLine (readLines input .rights) (readLines input .rules) ≤ 135
+line-most input =
+    let good = reads-lines input .good in
+    omega (arith, lines-few (readLines input .rights), good .kinds, good .few)
 
 pub lines-within : (input : List ℕ) → readLines input .length ≤ length input
 lines-within input =
     let r = reads-lines input in
-    omega (arith, r .bytes, ap length (r .reads), length-append (listText 1 (readLines input .rules)) (r .rest))
+    omega (arith, r .bytes, ap length (r .reads), length-append (linesText (readLines input .rights) (readLines input .rules)) (r .rest))
 
 module _ (input : List ℕ) (prefix : Prefix) (e : prefix ≡ prefixOf (readLines input)) where
-  pub prefix-list : prefix .list ≡ listOf (readLines input .rules)
+  pub prefix-list : prefix .list ≡ listOf (readLines input .rights) (readLines input .rules)
   unfolding prefixOf
   prefix-list = ap (λ (p : Prefix). p .list) e
 
-  pub prefix-line : prefix .line ≡ suc (length (readLines input .rules))
+  pub prefix-line : prefix .line ≡ nextLine (readLines input .rights) (readLines input .rules)
   unfolding prefixOf
   prefix-line = ap (λ (p : Prefix). p .line) e
 
@@ -127,12 +131,12 @@ pub not-too-long : (input : List ℕ) → length input ≤ 65536 → outcomeOf i
 unfolding outcomeOf
 not-too-long input h = rw (le-ltb 65536 (length input) h)
 
-pub without-steps : (lines : LinesRead) (text : List ℕ) → startsSteps text ≡ false → afterRules lines text ≡ badAt (numberWithoutSteps (lines .number)) (suc (length (lines .rules)))
+pub without-steps : (lines : LinesRead) (text : List ℕ) → startsSteps text ≡ false → afterRules lines text ≡ badAt (numberWithoutSteps (lines .number)) (nextLine (lines .rights) (lines .rules))
 unfolding afterRules
 without-steps lines text h = rw h
 
 pub with-steps : (lines : LinesRead) (text : List ℕ) → startsSteps text ≡ true
-    → afterRules lines text ≡ stepsOutcome (listOf (lines .rules)) (suc (length (lines .rules))) (readSteps 1 (drop 8 text))
+    → afterRules lines text ≡ stepsOutcome (listOf (lines .rights) (lines .rules)) (nextLine (lines .rights) (lines .rules)) (readSteps 1 (drop 8 text))
 unfolding afterRules
 with-steps lines text h = rw h
 
@@ -154,20 +158,13 @@ module _ (input : List ℕ) (h : length input ≤ 65536) (prefix : Prefix) (e : 
 
 -- ---- "with 131,072 bytes of room never 18"
 
-steps-short : (list : RuleList) (line : ℕ) (text : List ℕ) → line ≤ 129 → length text ≤ 65536 → length (outcomeText (stepsOutcome list line (readSteps 1 text))) ≤ 131072
+steps-short : (list : RuleList) (line : ℕ) (text : List ℕ) → line ≤ 135 → length text ≤ 65536 → length (outcomeText (stepsOutcome list line (readSteps 1 text))) ≤ 131072
 unfolding stepsOutcome outcomeText
 steps-short list line text l h = go (readSteps 1 text) (sized text)
   where
     go : (r : StepsRead) → Sized 1 text r → length (outcomeText (stepsOutcome list line r)) ≤ 131072
     go (steps read) w = omega (arith, answers-short list fresh read fresh-accepted)
     go (bad k) w = omega (arith, bad-short 10 (line + k) (omega arith) (omega arith))
-
-pub cause-small : {n : ℕ} {text : List ℕ} {number : ℕ} → Cause n text number → number < 15
-cause-small (no-form none) = omega arith
-cause-small (out-of-range k values stands out) = omega arith
-cause-small (not-next m rule stands other) = omega arith
-cause-small (same-twice rule stands twice) = omega arith
-cause-small (unsound rule stands distinct sound) = omega arith
 
 pub number-small : (input : List ℕ) → numberWithoutSteps (readLines input .number) < 15
 unfolding numberWithoutSteps
@@ -177,10 +174,10 @@ number-small input = go (reads-lines input .stops)
     small zero h = omega arith
     small (suc n) h = rw (ne-eqb (suc n) 0 (λ q. omega arith)) h
 
-    go : ((readLines input .number ≡ 0) × (reads-lines input .rest ≡ [])) ⊎ ((0 < length (reads-lines input .rest)) × Cause (1 + length (readLines input .rules)) (reads-lines input .rest) (readLines input .number))
+    go : ((readLines input .number ≡ 0) × (reads-lines input .rest ≡ [])) ⊎ ((0 < length (reads-lines input .rest)) × Cause (readLines input .rights) (suc (length (readLines input .rules))) (reads-lines input .rest) (readLines input .number))
         → cond (eqb (readLines input .number) 0) 10 (readLines input .number) < 15
     go (inl h) = small (readLines input .number) (omega (arith, h .0))
-    go (inr h) = small (readLines input .number) (cause-small (h .1))
+    go (inr h) = small (readLines input .number) (omega (arith, cause-number (h .1) .1))
 
 pub response-short : (input : List ℕ) → length (responseOf input) ≤ 131072
 unfolding outcomeOf
@@ -193,10 +190,10 @@ response-short input = go (ltb 65536 (length input)) refl (startsSteps (drop (re
         → length (outcomeText (cond x (badAt 19 0) (afterRules (readLines input) (drop (readLines input .length) input)))) ≤ 131072
     go true p y q = line-short 19 0 (omega arith) (omega arith)
     go false p true q =
-        let short = steps-short (listOf (readLines input .rules)) (suc (length (readLines input .rules))) (drop 8 (drop (readLines input .length) input))
-        (lines-few input)
+        let short = steps-short (listOf (readLines input .rights) (readLines input .rules)) (nextLine (readLines input .rights) (readLines input .rules)) (drop 8 (drop (readLines input .length) input))
+        (line-most input)
         (omega (arith, ltb-false 65536 (length input) p, length-drop 8 (drop (readLines input .length) input), length-drop (readLines input .length) input)) in
         rw (with-steps (readLines input) (drop (readLines input .length) input) q) short
     go false p false q =
         rw (without-steps (readLines input) (drop (readLines input .length) input) q)
-        (line-short (numberWithoutSteps (readLines input .number)) (suc (length (readLines input .rules))) (omega (arith, number-small input)) (omega (arith, lines-few input)))
+        (line-short (numberWithoutSteps (readLines input .number)) (nextLine (readLines input .rights) (readLines input .rules)) (omega (arith, number-small input)) (omega (arith, line-most input)))

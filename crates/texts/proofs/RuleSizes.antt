@@ -1,10 +1,10 @@
--- A rule list has at most 8,980 bytes, and one list has as many. Assumes nothing.
+-- A rule list has at most 9,085 bytes, and one list has as many. Assumes nothing.
 use mathlib.Core.Path.{_≡_, refl, sym, ap, _∙_, subst}
 use mathlib.Core.Bool.{Bool, true, false, cond, _&&_}
 use mathlib.Core.List.{List, [], _∷_, _++_}
 use Prim.Native.Nat.{ℕ, zero, suc, _+_, _-_, _*_, _/_, _≤_, _<_}
 use native.Mathlib.Omega.{arith}
-use lib.ListN.{length, drop, getD, replicate, length-append, length-replicate}
+use lib.ListN.{length, drop, getD, replicate, length-append, length-replicate, getD-replicate}
 use lib.Dec.{ltb, leb}
 use borrow.Author.Tests.{ltb-true, ltb-false, leb-true, lt-leb}
 use Rattle.sets.proofs.Booleans.{both}
@@ -17,18 +17,24 @@ use Rattle.forms.specs.declared.kinds.Syntax.the-variants as syntax
 use Rattle.forms.proofs.Digits.{digits-small, digits-step}
 use Rattle.forms.proofs.FixedDigits.{fixed-length}
 use Rattle.places.specs.Places.{shapeInRange, shapeSound}
-use Rattle.rules.specs.Acceptance.{ruleInRange, ruleDistinct, ruleSound, ruleAccepted, every, rulesOf, listAccepted}
+use Rattle.rules.specs.Acceptance.{ruleInRange, ruleDistinct, ruleSound, ruleAccepted, unstated, rightAt, rightAccepted, every, rulesOf, listAccepted}
 use Rattle.rules.specs.declared.families.Rule.{Rule}
+use Rattle.rules.specs.declared.rights.Right.{Right}
+use Rattle.rules.specs.declared.rights.Right.the-variants.{Unstated, Permission}
+use Rattle.rules.specs.declared.rights.RightSlot.{RightSlot}
 use Rattle.rules.specs.declared.lists.RuleList.{RuleList}
-use Rattle.rule_text.specs.Lines.{ruleForms, lineOf, ruleText, listText}
+use Rattle.rule_text.specs.Lines.{ruleForms, ruleFormCount, lineOf, ruleText, listText, rightText, rightsText, linesText}
+use Rattle.rule_text.specs.Causes.{GoodLines}
 use Rattle.rule_text.specs.Reading as ruleText
 use Rattle.rule_text.specs.Writing.{textOf}
 use Rattle.rule_text.proofs.Values.{each-at, everyForm, form-at}
 use Rattle.rule_text.proofs.Inverse.{form-of-rule, number-of-rule, rule-line-in-range}
-use Rattle.rule_text.proofs.Slots.{rules-of-list, list-accepted, list-few}
-use Rattle.rule_text.proofs.Loaded.{loaded-list}
+use Rattle.rule_text.proofs.RightLines.{right-in-range}
+use Rattle.rule_text.proofs.Slots.{rules-of-list, list-rights, list-accepted, accepted-good}
+use Rattle.rule_text.proofs.Loaded.{loaded-zero, loaded-whole, loaded-list}
+use Rattle.rule_text.proofs.Lists.{reads-lines}
 use Rattle.rule_text.proofs.Back.{write-back, read-back, read-accepted}
-use Rattle.texts.specs.Sizes.{longestRule, longestRules}
+use Rattle.texts.specs.Sizes.{longestRule, longestRules, longestRights}
 use Rattle.texts.specs.SavedRuns.{refusedReport, outputReport, rulesCopyReport}
 use Rattle.texts.specs.declared.saved_runs.Text.the-variants as Text
 
@@ -130,7 +136,7 @@ line-most n rule first last h =
     let ranged = rest-in-range rest values (subst (λ (form : List ℕ). allInRange form values ≡ true) same (rule-line-in-range n rule first last h)) in
     let whole : length (fill (formAt ruleForms k) values) ≡ 6 + (length (digitsOf (head values)) + length (fill rest (tail values))) = ap (λ (form : List ℕ). length (fill form values)) same ∙ opened rest values in
     let number : length (digitsOf (head values)) ≡ length (digitsOf n) = ap (λ (m : ℕ). length (digitsOf m)) (head-first values ∙ number-of-rule n rule) in
-    let most = leb-true (widest rest) 62 (form-at (λ form. leb (widest (drop 7 form)) 62) forms-short k (form-of-rule n rule)) in
+    let most = leb-true (widest rest) 62 (form-at (λ form. leb (widest (drop 7 form)) 62) forms-short k (omega (arith, form-of-rule n rule))) in
     omega (arith, whole, number, fill-most rest (tail values) ranged, most)
 
 -- ---- all lines
@@ -159,22 +165,54 @@ list-most (rule ∷ rules) m first last h =
     let ranged = both (ruleInRange rule) (ruleDistinct rule && ruleSound rule) (p .0) .0 in
     rw length-append (omega (arith, line-most m rule first (omega arith) ranged, list-most rules (suc m) (omega arith) (omega arith) (p .1)))
 
+-- ---- the lines of rights
+
+-- the most bytes of the lines of so many kinds, from one on
+unfoldable widthSum : ℕ → ℕ → ℕ
+widthSum zero kind = 0
+widthSum (suc n) kind = widest (formAt ruleForms (ruleFormCount + kind)) + widthSum n (suc kind)
+
+widths-all : widthSum 6 0 ≡ 105
+unfolding widthSum widest widestBy kindOf lookup formAt linesIn ruleForms digitsOf digitsWithin
+widths-all = refl
+
+right-most : (kind : ℕ) (right : Right) → kind < 6 → rightAccepted right ≡ true → length (rightText kind right) ≤ widest (formAt ruleForms (ruleFormCount + kind))
+unfolding rightText
+right-most kind Unstated h accepted = omega arith
+right-most kind (Permission p) h accepted = fill-most (formAt ruleForms (ruleFormCount + kind)) (p ∷ 0 ∷ 0 ∷ 0 ∷ 0 ∷ 0 ∷ []) (right-in-range kind p h accepted)
+
+rights-most : (kind : ℕ) (rights : List RightSlot) → kind + length rights ≤ 6 → ((i : ℕ) → i < length rights → rightAccepted (rightAt rights i) ≡ true)
+    → length (rightsText kind rights) ≤ widthSum (length rights) kind
+unfolding rightsText widthSum
+rights-most kind [] few accepted = omega arith
+rights-most kind (slot ∷ rights) few accepted =
+    rw length-append
+    (omega (arith, right-most kind (slot .right) (omega arith) (accepted 0 (omega arith)), rights-most (suc kind) rights (omega arith) (λ i h. accepted (suc i) (omega arith))))
+
+-- ---- all of a list
+
+lines-most : (rights : List RightSlot) (rules : List Rule) → GoodLines rights rules → length (linesText rights rules) ≤ 9085
+lines-most rights rules good =
+    let few = good .few in
+    let kinds = good .kinds in
+    let all : length rules + (128 - length rules) ≡ 128 = omega arith in
+    let digits : digitSum (length rules) 1 ≤ digitSum 128 1 = rw all at (sum-grows (length rules) (128 - length rules) 1) in
+    let first : length (rightsText 0 rights) ≤ widthSum 6 0 = rw kinds at (rights-most 0 rights (omega arith) (λ i h. good .in-range i (omega arith))) in
+    rw length-append (omega (arith, first, widths-all, list-most rules 1 (omega arith) (omega arith) (good .accepted), digits, sum-all))
+
 -- no list that 40 does not refuse has a longer text
-pub rules-most : (list : RuleList) → listAccepted list ≡ true → length (textOf list) ≤ 8980
-unfolding listAccepted
-rules-most list accepted =
-    let few = list-few list accepted in
-    let all : length (rulesOf list) + (128 - length (rulesOf list)) ≡ 128 = omega arith in
-    let digits : digitSum (length (rulesOf list)) 1 ≤ digitSum 128 1 = rw all at (sum-grows (length (rulesOf list)) (128 - length (rulesOf list)) 1) in
-    let each = both (leb (list .length) 128) (every ruleAccepted (rulesOf list)) accepted .1 in
-    omega (arith, list-most (rulesOf list) 1 (omega arith) (omega arith) each, digits, sum-all)
+pub rules-most : (list : RuleList) → length (list .rights) ≡ 6 → listAccepted list ≡ true → length (textOf list) ≤ 9085
+rules-most list kinds accepted = lines-most (list .rights) (rulesOf list) (accepted-good list kinds accepted)
 
 -- and so no text that is accepted is longer
-pub accepted-most : (rules : List ℕ) → ruleText.readRules rules .number ≡ 0 → length rules ≤ 8980
+pub accepted-most : (rules : List ℕ) → ruleText.readRules rules .number ≡ 0 → length rules ≤ 9085
 accepted-most rules h =
     let list = ruleText.readRules rules .list in
     let whole : textOf list ≡ rules = write-back rules list (loaded-list (ruleText.readLines rules) h) in
-    subst (λ (text : List ℕ). length text ≤ 8980) whole (rules-most list (read-accepted rules))
+    let lines = ruleText.readLines rules in
+    let six : length (list .rights) ≡ 6 =
+    rw (loaded-whole lines (loaded-zero lines h), list-rights (lines .rights) (lines .rules)) (reads-lines rules .good .kinds) in
+    subst (λ (text : List ℕ). length text ≤ 9085) whole (rules-most list six (read-accepted rules))
 
 -- ---- and least
 
@@ -194,23 +232,39 @@ unfolding listText digitSum
 longest-lines zero m = refl
 longest-lines (suc n) m = rw length-append (omega (arith, longest-line m, longest-lines n (suc m)))
 
--- one list has as many bytes
-pub longest-text : length (listText 1 longestRules) ≡ 8980
+longest-rules : length (listText 1 longestRules) ≡ 8980
 unfolding longestRules
-longest-text = omega (arith, longest-lines 128 1, sum-all)
+longest-rules = omega (arith, longest-lines 128 1, sum-all)
+
+longest-rights : length (rightsText 0 longestRights) ≡ 105
+unfolding longestRights rightsText rightText fill itemText textBy isSlot kindOf lookup formAt linesIn ruleForms digitsOf digitsWithin
+longest-rights = refl
+
+-- one list has as many bytes
+pub longest-text : length (linesText longestRights longestRules) ≡ 9085
+longest-text = rw length-append (omega (arith, longest-rights, longest-rules))
 
 longest-accepted : (n : ℕ) → every ruleAccepted (replicate n longestRule) ≡ true
 unfolding every ruleInRange ruleDistinct ruleSound shapeInRange shapeSound
 longest-accepted zero = refl
 longest-accepted (suc n) = longest-accepted n
 
+longest-good : GoodLines longestRights longestRules
+unfolding longestRights longestRules
+longest-good = record {
+  kinds = refl;
+  in-range = λ kind h. ap (λ (slot : RightSlot). rightAccepted (slot .right)) (getD-replicate 6 kind (record { right = Permission 31 }) unstated h);
+  few = omega (arith, length-replicate 128 longestRule);
+  accepted = longest-accepted 128;
+}
+
 -- it is accepted, and a space that is shorter by a byte is too short for its copy
-pub rules-least : (room : ℕ) → room < 8980 → rulesCopyReport (ruleText.readRules (listText 1 longestRules)) room ≡ refusedReport Text.OutputSpace 18 8980
-unfolding rulesCopyReport outputReport longestRules
+pub rules-least : (room : ℕ) → room < 9085 → rulesCopyReport (ruleText.readRules (linesText longestRights longestRules)) room ≡ refusedReport Text.OutputSpace 18 9085
+unfolding rulesCopyReport outputReport
 rules-least room h =
-    let few : length (replicate 128 longestRule) ≤ 128 = omega (arith, length-replicate 128 longestRule) in
-    let same : rulesOf (ruleText.listOf (replicate 128 longestRule)) ≡ replicate 128 longestRule = rules-of-list (replicate 128 longestRule) few in
-    let accepted = list-accepted (replicate 128 longestRule) few (longest-accepted 128) in
-    let read : ruleText.readRules (listText 1 (replicate 128 longestRule)) ≡ record { number = 0; line = 0; list = ruleText.listOf (replicate 128 longestRule) } =
-    rw same at (read-back (ruleText.listOf (replicate 128 longestRule)) accepted) in
-    rw (read, same, longest-text, lt-leb 8980 room h)
+    let list = ruleText.listOf longestRights longestRules in
+    let rights : list .rights ≡ longestRights = list-rights longestRights longestRules in
+    let rules : rulesOf list ≡ longestRules = rules-of-list longestRights longestRules (longest-good .few) in
+    let read : ruleText.readRules (linesText longestRights longestRules) ≡ record { number = 0; line = 0; list = list } =
+    rw (rights, rules) at (read-back list (ap length rights ∙ longest-good .kinds) (list-accepted longestRights longestRules longest-good)) in
+    rw (read, rights, rules, longest-text, lt-leb 9085 room h)

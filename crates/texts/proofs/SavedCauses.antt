@@ -10,8 +10,9 @@ use native.Mathlib.Omega.{arith}
 use lib.ListN.{length, length-append}
 use lib.Dec.{ltb, leb}
 use borrow.Author.Tests.{lt-leb, le-leb, leb-true, leb-false, ltb-true, ltb-false, ne-eqb}
-use Rattle.rules.specs.Acceptance.{rulesOf, listAccepted, ruleAccepted, every}
+use Rattle.rules.specs.Acceptance.{rulesOf, listAccepted}
 use Rattle.rules.specs.declared.families.Rule.{Rule}
+use Rattle.rules.specs.declared.rights.RightSlot.{RightSlot}
 use Rattle.rules.specs.declared.lists.RuleList.{RuleList}
 use Rattle.steps.specs.declared.lowest.Lowest.{Lowest}
 use Rattle.steps.specs.declared.lowest.Lowest.the-variants.{Unbroken, BrokenAt}
@@ -23,7 +24,7 @@ use Rattle.enforcement.specs.Runs.{lastState}
 use Rattle.enforcement.specs.Reached.{Good}
 use Rattle.enforcement.specs.declared.states.State.{State}
 use Rattle.steps.specs.declared.steps.Step.{Step}
-use Rattle.rule_text.specs.Lines.{listText, filler}
+use Rattle.rule_text.specs.Lines.{linesText as ruleLinesText, filler}
 use Rattle.rule_text.specs.Reading as ruleText
 use Rattle.rule_text.specs.Causes as rule
 use Rattle.rule_text.proofs.Loaded.{loaded-whole, loaded-zero, zero-or-some}
@@ -53,22 +54,24 @@ use Rattle.texts.proofs.SavedRunning.{too-long, texts-refused, texts-he
 
 -- ---- the rules
 
-rules-hold : (rules : List ℕ) (read : List Rule) → RulesThen rules read [] → ruleText.loadedOf (ruleText.readLines rules) ≡ record { number = 0; line = 0; list = ruleText.listOf read }
-rules-hold rules read then =
-    ap ruleText.loadedOf (ap ruleText.readLines (then .reads ∙ append-nil (listText 1 read)) ∙ reads-whole read (then .few) (then .accepted))
-    ∙ loaded-whole (record { rules = read; length = length (listText 1 read); number = 0 }) refl
+rules-hold : (rules : List ℕ) (rights : List RightSlot) (read : List Rule) → RulesThen rules rights read []
+    → ruleText.loadedOf (ruleText.readLines rules) ≡ record { number = 0; line = 0; list = ruleText.listOf rights read }
+rules-hold rules rights read then =
+    ap ruleText.loadedOf (ap ruleText.readLines (then .reads ∙ append-nil (ruleLinesText rights read)) ∙ reads-whole rights read (then .good))
+    ∙ loaded-whole (record { rights = rights; rules = read; length = length (ruleLinesText rights read); number = 0 }) refl
 
-rules-held : (rules : List ℕ) → ruleText.loadedOf (ruleText.readLines rules) .number ≡ 0 → RulesThen rules (ruleText.readLines rules .rules) []
+rules-held : (rules : List ℕ) → ruleText.loadedOf (ruleText.readLines rules) .number ≡ 0 → RulesThen rules (ruleText.readLines rules .rights) (ruleText.readLines rules .rules) []
 rules-held rules none = go (reads-lines rules .stops)
   where
-    go : ((ruleText.readLines rules .number ≡ 0) × (reads-lines rules .rest ≡ [])) ⊎ ((0 < length (reads-lines rules .rest)) × rule.Cause (1 + length (ruleText.readLines rules .rules)) (reads-lines rules .rest) (ruleText.readLines rules .number))
-        → RulesThen rules (ruleText.readLines rules .rules) []
-    go (inl stop) =
-        record {
-          few = omega (arith, reads-lines rules .few);
-          accepted = reads-lines rules .accepted;
-          reads = reads-lines rules .reads ∙ ap (λ (t : List ℕ). listText 1 (ruleText.readLines rules .rules) ++ t) (stop .1);
-        }
+    rights : List RightSlot
+    rights = ruleText.readLines rules .rights
+
+    read : List Rule
+    read = ruleText.readLines rules .rules
+
+    go : ((ruleText.readLines rules .number ≡ 0) × (reads-lines rules .rest ≡ [])) ⊎ ((0 < length (reads-lines rules .rest)) × rule.Cause rights (suc (length read)) (reads-lines rules .rest) (ruleText.readLines rules .number))
+        → RulesThen rules rights read []
+    go (inl stop) = record { good = reads-lines rules .good; reads = reads-lines rules .reads ∙ ap (λ (t : List ℕ). ruleLinesText rights read ++ t) (stop .1) }
     go (inr stop) = absurd (omega (arith, loaded-zero (ruleText.readLines rules) none, cause-some (stop .1)))
 
 module _ (rules saved : List ℕ) where
@@ -78,9 +81,10 @@ module _ (rules saved : List ℕ) where
       let answer = first-bad rules number n some .1 first in
       rw (answer .0, ne-eqb number 0 (λ e. omega arith), answer .1)
 
-  pub load-state : (read : List Rule) → RulesThen rules read [] → loadTexts rules saved ≡ stateUnder (ruleText.listOf read) (readState (ruleText.listOf read) saved)
+  pub load-state : (rights : List RightSlot) (read : List Rule) → RulesThen rules rights read []
+      → loadTexts rules saved ≡ stateUnder (ruleText.listOf rights read) (readState (ruleText.listOf rights read) saved)
   unfolding loadTexts rulesFirst
-  load-state read then = rw (rules-hold rules read then)
+  load-state rights read then = rw (rules-hold rules rights read then)
 
 -- ---- the saved state
 
@@ -107,15 +111,15 @@ line-numbers (c ∷ t) number place e =
     go next s rest (unrested q h) = inr (inr (inr (inl q)))
     go next s rest (thirtyThird q h) = inr (inr (inr (inr q)))
 
-module _ (read : List Rule) (few : length read ≤ 128) (accepted : every ruleAccepted read ≡ true) (saved : List ℕ) where
+module _ (rights : List RightSlot) (read : List Rule) (good : rule.GoodLines rights read) (saved : List ℕ) where
   abbrev list : RuleList
-  list = ruleText.listOf read
+  list = ruleText.listOf rights read
 
   listed : listAccepted list ≡ true
-  listed = list-accepted read few accepted
+  listed = list-accepted rights read good
 
   same-rules : rulesOf list ≡ read
-  same-rules = rules-of-list read few
+  same-rules = rules-of-list rights read (good .few)
 
   state-caused : {number place : ℕ} → StateCause read saved number place → readState list saved ≡ refused number place
   state-caused (state-no-form n b) = refused-10 list saved listed n .1 b
@@ -191,26 +195,28 @@ module _ (rules saved text : List ℕ) where
         let first = first-bad rules number line some .0 (refl, refl) in
         subst Says (sym (texts-refused rules saved text short (load-bad rules saved number line some first))) (λ answersRoom stateRoom. bad-rules number line short first)
 
-    module _ (read : List Rule) (then : RulesThen rules read []) where
-      steps-say : (s : State) → TextsHold rules saved read s → (r : StepsRead) → readSteps 1 text ≡ r → Says (stepsUnder (ruleText.listOf read) s r)
+    module _ (rights : List RightSlot) (read : List Rule) (then : RulesThen rules rights read []) where
+      steps-say : (s : State) → TextsHold rules saved rights read s → (r : StepsRead) → readSteps 1 text ≡ r → Says (stepsUnder (ruleText.listOf rights read) s r)
       unfolding stepsUnder
-      steps-say s holds (steps given) e = record { short = short; read = read; texts = holds; same = refl; all-steps = e }
-      steps-say s holds (bad n) e = λ answersRoom stateRoom. bad-steps read s n short holds (steps-10 1 text n .0 e)
+      steps-say s holds (steps given) e = record { short = short; rights = rights; read = read; texts = holds; same = refl; all-steps = e }
+      steps-say s holds (bad n) e = λ answersRoom stateRoom. bad-steps rights read s n short holds (steps-10 1 text n .0 e)
 
-      state-say : (l : Loading) → readState (ruleText.listOf read) saved ≡ l → Says (savedOutcome rules saved text)
+      state-say : (l : Loading) → readState (ruleText.listOf rights read) saved ≡ l → Says (savedOutcome rules saved text)
       state-say (refused number place) e =
-          let there : loadTexts rules saved ≡ refusedIn Text.State number place = load-state rules saved read then ∙ ap (stateUnder (ruleText.listOf read)) e ∙ unfold stateUnder in refl in
+          let there : loadTexts rules saved ≡ refusedIn Text.State number place = load-state rules saved rights read then ∙ ap (stateUnder (ruleText.listOf rights read)) e ∙ unfold stateUnder in refl in
           subst Says (sym (texts-refused rules saved text short there))
-          (λ answersRoom stateRoom. bad-state read number place short then (state-says read (then .few) (then .accepted) saved number place e))
+          (λ answersRoom stateRoom. bad-state rights read number place short then (state-says rights read (then .good) saved number place e))
       state-say (loaded s) e =
-          let there : loadTexts rules saved ≡ holding (ruleText.listOf read) s = load-state rules saved read then ∙ ap (stateUnder (ruleText.listOf read)) e ∙ unfold stateUnder in refl in
-          let good = state-held read (then .few) (then .accepted) saved s .0 e in
-          let holds : TextsHold rules saved read s = record { all-rules = then; all-lines = good .0; all-hold = good .1 } in
+          let there : loadTexts rules saved ≡ holding (ruleText.listOf rights read) s = load-state rules saved rights read then ∙ ap (stateUnder (ruleText.listOf rights read)) e ∙ unfold stateUnder in refl in
+          let good = state-held rights read (then .good) saved s .0 e in
+          let holds : TextsHold rules saved rights read s = record { all-rules = then; all-lines = good .0; all-hold = good .1 } in
           subst Says (sym (texts-held rules saved text short there)) (steps-say s holds (readSteps 1 text) refl)
 
     short-says : (ruleText.loadedOf (ruleText.readLines rules) .number ≡ 0) ⊎ (0 < ruleText.loadedOf (ruleText.readLines rules) .number) → Says (savedOutcome rules saved text)
     short-says (inr some) = rules-say some
-    short-says (inl none) = state-say (ruleText.readLines rules .rules) (rules-held rules none) (readState (ruleText.listOf (ruleText.readLines rules .rules)) saved) refl
+    short-says (inl none) =
+        state-say (ruleText.readLines rules .rights) (ruleText.readLines rules .rules) (rules-held rules none)
+        (readState (ruleText.listOf (ruleText.readLines rules .rights) (ruleText.readLines rules .rules)) saved) refl
 
   says : Says (savedOutcome rules saved text)
   says = go (ltb 65536 (length text)) refl
@@ -221,17 +227,18 @@ module _ (rules saved text : List ℕ) where
 
   -- ---- and what has a cause comes so
 
-  held-there : (read : List Rule) (s : State) → length text ≤ 65536 → TextsHold rules saved read s → savedOutcome rules saved text ≡ stepsUnder (ruleText.listOf read) s (readSteps 1 text)
-  held-there read s short holds =
+  held-there : (rights : List RightSlot) (read : List Rule) (s : State) → length text ≤ 65536 → TextsHold rules saved rights read s
+      → savedOutcome rules saved text ≡ stepsUnder (ruleText.listOf rights read) s (readSteps 1 text)
+  held-there rights read s short holds =
       let then = holds .all-rules in
-      let there : loadTexts rules saved ≡ holding (ruleText.listOf read) s =
-      load-state rules saved read then ∙ ap (stateUnder (ruleText.listOf read)) (state-held read (then .few) (then .accepted) saved s .1 (holds .all-lines, holds .all-hold)) ∙ unfold stateUnder in refl in
+      let there : loadTexts rules saved ≡ holding (ruleText.listOf rights read) s =
+      load-state rules saved rights read then ∙ ap (stateUnder (ruleText.listOf rights read)) (state-held rights read (then .good) saved s .1 (holds .all-lines, holds .all-hold)) ∙ unfold stateUnder in refl in
       texts-held rules saved text short there
 
   runs : {list : RuleList} {s : State} {given : List Step} → RunsSaved rules saved text list s given → savedOutcome rules saved text ≡ ranFrom list s given
   unfolding stepsUnder
   runs {list} {s} {given} r =
-      held-there (r .read) s (r .short) (r .texts) ∙ ap (stepsUnder (ruleText.listOf (r .read)) s) (r .all-steps) ∙ ap (λ (l : RuleList). ranFrom l s given) (sym (r .same))
+      held-there (r .rights) (r .read) s (r .short) (r .texts) ∙ ap (stepsUnder (ruleText.listOf (r .rights) (r .read)) s) (r .all-steps) ∙ ap (λ (l : RuleList). ranFrom l s given) (sym (r .same))
 
   -- the steps run exactly where no text is refused
   pub saved-runs : (list : RuleList) (s : State) (given : List Step) → (savedOutcome rules saved text ≡ ranFrom list s given) ↔ RunsSaved rules saved text list s given
@@ -241,8 +248,8 @@ module _ (rules saved text : List ℕ) where
   refused-some : {answersRoom stateRoom : ℕ} {refusedText : Text} {number place : ℕ} → RunRefused rules saved text answersRoom stateRoom refusedText number place → 0 < number
   refused-some (long-steps h) = omega arith
   refused-some (bad-rules number n short first) = cause-some (first .cause)
-  refused-some (bad-state read number place short then cause) = state-some cause
-  refused-some (bad-steps read s n short holds first) = omega arith
+  refused-some (bad-state rights read number place short then cause) = state-some cause
+  refused-some (bad-steps rights read s n short holds first) = omega arith
   refused-some (short-answers list s given r long) = omega arith
   refused-some (short-state list s given r fits long) = omega arith
 
@@ -260,12 +267,12 @@ module _ (rules saved text : List ℕ) where
     caused : {refusedText : Text} {number place : ℕ} → RunRefused rules saved text answersRoom stateRoom refusedText number place → report ≡ refusedReport refusedText number place
     caused (long-steps h) = refused-text (too-long rules saved text h)
     caused (bad-rules number n short first) = refused-text (texts-refused rules saved text short (load-bad rules saved number n (cause-some (first .cause)) first))
-    caused (bad-state read number place short then cause) =
+    caused (bad-state rights read number place short then cause) =
         let there : loadTexts rules saved ≡ refusedIn Text.State number place =
-        load-state rules saved read then ∙ ap (stateUnder (ruleText.listOf read)) (state-caused read (then .few) (then .accepted) saved cause) ∙ unfold stateUnder in refl in
+        load-state rules saved rights read then ∙ ap (stateUnder (ruleText.listOf rights read)) (state-caused rights read (then .good) saved cause) ∙ unfold stateUnder in refl in
         refused-text (texts-refused rules saved text short there)
-    caused (bad-steps read s n short holds first) =
-        refused-text (held-there read s short holds ∙ ap (stepsUnder (ruleText.listOf read) s) (steps-10 1 text n .1 first) ∙ unfold stepsUnder in refl)
+    caused (bad-steps rights read s n short holds first) =
+        refused-text (held-there rights read s short holds ∙ ap (stepsUnder (ruleText.listOf rights read) s) (steps-10 1 text n .1 first) ∙ unfold stepsUnder in refl)
     caused (short-answers list s given r long) =
         ran-report r ∙ unfold fitted in rw (lt-leb (length (answersText (runOf list s given))) answersRoom long)
     caused (short-state list s given r fits long) =
@@ -340,10 +347,10 @@ module _ (rules saved text : List ℕ) where
   -- ---- "with 131,072 bytes of room never 18"
 
   -- what the steps start from is good under the rules that were read
-  pub start-good : {list : RuleList} {s : State} {given : List Step} (r : RunsSaved rules saved text list s given) → Good (ruleText.listOf (r .read)) s
+  pub start-good : {list : RuleList} {s : State} {given : List Step} (r : RunsSaved rules saved text list s given) → Good (ruleText.listOf (r .rights) (r .read)) s
   start-good {list} {s} {given} r =
       let then = r .texts .all-rules in
-      read-accepted (ruleText.listOf (r .read)) saved s (state-held (r .read) (then .few) (then .accepted) saved s .1 (r .texts .all-lines, r .texts .all-hold))
+      read-accepted (ruleText.listOf (r .rights) (r .read)) saved s (state-held (r .rights) (r .read) (then .good) saved s .1 (r .texts .all-lines, r .texts .all-hold))
 
   ran-short : (list : RuleList) (s : State) (given : List Step) → RunsSaved rules saved text list s given → length (answersText (runOf list s given)) ≤ 131072
   ran-short list s given r =

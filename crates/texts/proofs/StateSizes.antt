@@ -36,9 +36,9 @@ use Rattle.enforcement.specs.Reached.{Typed, Held, Lending, Good}
 use Rattle.enforcement.specs.declared.states.State.{State}
 use Rattle.forms.specs.Numbers.{digitsOf, digitsWithin, signedOf, signedCode}
 use Rattle.forms.proofs.Puts.{digits-length}
-use Rattle.rule_text.specs.Lines.{listText}
-use Rattle.rule_text.specs.Reading.{listOf}
-use Rattle.rule_text.proofs.Slots.{rules-of-list, list-accepted}
+use Rattle.rule_text.specs.Lines.{rightText, rightsText, listText}
+use Rattle.rule_text.specs.Reading.{noRights, listOf}
+use Rattle.rule_text.proofs.Slots.{rules-of-list, list-accepted, none-good}
 use Rattle.state_text.specs.Entries.{lineText}
 use Rattle.state_text.specs.Saving.{over, only, loanLine, placeLine, placeLines, sessionLines, linesOf, savedText}
 use Rattle.state_text.specs.Parts.{width}
@@ -402,21 +402,21 @@ fullest-held i r e = go (ltb i 32) refl
         rw user (held-assigned (fullest .assigned) (loansOf fullest) 63 r (rw same e))
     go false q = let past : wordAt (fullest .active) i ≡ 0 = no-word i (ltb-false i 32 q) in clash (rw past at e) (member-empty r)
 
-fullest-good : Good (listOf []) fullest
+fullest-good : Good (listOf noRights []) fullest
 fullest-good =
     record {
       accepted = record { typed = fullest-typed; unrefused = fullest-accepted };
       held = fullest-held;
       lending = fullest-lending;
-      obeyed = ap (λ (rules : List Rule). obeys rules fullest) (rules-of-list [] (omega arith)) ∙ unfold every in refl;
+      obeyed = ap (λ (rules : List Rule). obeys rules fullest) (rules-of-list noRights [] (omega arith)) ∙ unfold every in refl;
     }
 
--- under no rules it is a saved state, and a space that is shorter by a byte is too short for it
+-- under no rights and no rules it is a saved state, and a space that is shorter by a byte is too short for it
 pub state-least : (room : ℕ) → room < 997981 → copyReport (loadTexts [] (savedText fullest)) room ≡ refusedReport Text.StateSpace 18 997981
 unfolding copyReport savedReport
 state-least room h =
-    let then : RulesThen [] [] [] = record { few = omega arith; accepted = unfold every in refl; reads = unfold listText in refl } in
-    let listed : listAccepted (listOf []) ≡ true = list-accepted [] (omega arith) (unfold every in refl) in
-    let there : loadTexts [] (savedText fullest) ≡ holding (listOf []) fullest =
-    load-state [] (savedText fullest) [] then ∙ ap (stateUnder (listOf [])) (good-back (listOf []) listed fullest fullest-good) ∙ unfold stateUnder in refl in
+    let then : RulesThen [] noRights [] [] = record { good = none-good; reads = unfold noRights rightsText rightText listText in refl } in
+    let listed : listAccepted (listOf noRights []) ≡ true = list-accepted noRights [] none-good in
+    let there : loadTexts [] (savedText fullest) ≡ holding (listOf noRights []) fullest =
+    load-state [] (savedText fullest) noRights [] then ∙ ap (stateUnder (listOf noRights [])) (good-back (listOf noRights []) listed fullest fullest-good) ∙ unfold stateUnder in refl in
     rw (there, fullest-text, lt-leb 997981 room h)

@@ -8,32 +8,31 @@ use mathlib.Core.Bool.{true, false}
 use mathlib.Core.List.{List, [], _++_}
 use lib.ListN.{length, getD}
 use Rattle.forms.specs.Tables.{bytes}
-use Rattle.rules.specs.Acceptance.{ruleAccepted, every}
 use Rattle.rules.specs.declared.families.Rule.{Rule}
+use Rattle.rules.specs.declared.rights.RightSlot.{RightSlot}
 use Rattle.rules.specs.declared.lists.RuleList.{RuleList}
-use Rattle.steps.specs.declared.actions.Action.{Action}
 use Rattle.enforcement.specs.States.{ruleHolds}
 use Rattle.enforcement.specs.Plain.{obeys}
 use Rattle.enforcement.specs.Gate.{runOf}
 use Rattle.enforcement.specs.Runs.{lastState}
 use Rattle.enforcement.specs.declared.states.State.{State}
 use Rattle.steps.specs.declared.steps.Step.{Step}
-use Rattle.rule_text.specs.Lines.{listText, filler}
+use Rattle.rule_text.specs.Lines.{linesText, nextLine, filler}
 use Rattle.rule_text.specs.Reading.{listOf}
 use Rattle.rule_text.specs.Causes as rule
 use Rattle.state_text.specs.Saving.{savedText}
 use Rattle.state_text.specs.Causes.{NoForm, OutOfRange, OutOfOrder, Unrested, ThirtyThird, BadLine, GoodText}
 use Rattle.step_text.specs.Lines.{steps, readSteps}
+use Rattle.step_text.specs.Rows.{Row}
 use Rattle.step_text.specs.Answers.{answersText}
 use Rattle.step_text.specs.Causes as step
 use Rattle.texts.specs.declared.saved_runs.Text.{Text}
 use Rattle.texts.specs.declared.saved_runs.Text.the-variants as Text
 
--- accepted rules, "numbered from 1 by ones", and what follows them
-pub record RulesThen (text : List ℕ) (rules : List Rule) (rest : List ℕ) : Type 0 where
-  pub few : length rules ≤ 128
-  pub accepted : every ruleAccepted rules ≡ true
-  pub reads : text ≡ listText 1 rules ++ rest
+-- accepted rights, 2026-05: "one line a kind in that order", accepted rules, "numbered from 1 by ones", and what follows them
+pub record RulesThen (text : List ℕ) (rights : List RightSlot) (rules : List Rule) (rest : List ℕ) : Type 0 where
+  pub good : rule.GoodLines rights rules
+  pub reads : text ≡ linesText rights rules ++ rest
 
 -- ---- the program
 
@@ -42,21 +41,22 @@ pub data BadInput (input : List ℕ) : ℕ → ℕ → Type 0 where
   -- "program input too long"; "19 has line 0 and comes before all else"
   too-long : 65536 < length input → BadInput input 19 0
   -- "A missing `(steps)` is 10 at the line after the last"
-  missing-steps : (rules : List Rule) → length input ≤ 65536 → RulesThen input rules [] → BadInput input 10 (suc (length rules))
-  -- 10 to 14: the line after good rules is not `(steps)`, and has the cause of the number
-  bad-rule : (number : ℕ) (rules : List Rule) (rest : List ℕ) → length input ≤ 65536 → RulesThen input rules rest → 0 < length rest
-      → ((more : List ℕ) → rest ≡ bytes "(steps)\n" ++ more → ⊥) → rule.Cause (suc (length rules)) rest number → BadInput input number (suc (length rules))
+  missing-steps : (rights : List RightSlot) (rules : List Rule) → length input ≤ 65536 → RulesThen input rights rules [] → BadInput input 10 (nextLine rights rules)
+  -- 10 to 14: the line after good rights and rules is not `(steps)`, and has the cause of the number
+  bad-rule : (number : ℕ) (rights : List RightSlot) (rules : List Rule) (rest : List ℕ) → length input ≤ 65536 → RulesThen input rights rules rest → 0 < length rest
+      → ((more : List ℕ) → rest ≡ bytes "(steps)\n" ++ more → ⊥) → rule.Cause rights (suc (length rules)) rest number → BadInput input number (nextLine rights rules)
   -- 10: after `(steps)` the first line that is no step
-  bad-step : (rules : List Rule) (text : List ℕ) (n : ℕ) → length input ≤ 65536 → RulesThen input rules (bytes "(steps)\n" ++ text)
-      → step.FirstBadStep 1 text n → BadInput input 10 (suc (length rules) + n)
+  bad-step : (rights : List RightSlot) (rules : List Rule) (text : List ℕ) (n : ℕ) → length input ≤ 65536 → RulesThen input rights rules (bytes "(steps)\n" ++ text)
+      → step.FirstBadStep 1 text n → BadInput input 10 (nextLine rights rules + n)
 
 -- "rules, `(steps)`, steps": nothing is bad, and these lines are run under these rules
-pub record RunsSteps (input : List ℕ) (list : RuleList) (lines : List Action) : Type 0 where
+pub record RunsSteps (input : List ℕ) (list : RuleList) (lines : List Row) : Type 0 where
   pub short : length input ≤ 65536
+  pub rights : List RightSlot
   pub rules : List Rule
   pub text : List ℕ
-  pub before : RulesThen input rules (bytes "(steps)\n" ++ text)
-  pub same : list ≡ listOf rules
+  pub before : RulesThen input rights rules (bytes "(steps)\n" ++ text)
+  pub same : list ≡ listOf rights rules
   pub given : step.GoodSteps text lines
 
 -- ---- steps over a saved state
@@ -74,17 +74,18 @@ pub data StateCause (rules : List Rule) (saved : List ℕ) : ℕ → ℕ → Typ
       → ((k : ℕ) → k < n → ruleHolds (getD rules k filler) s ≡ true) → StateCause rules saved 17 (suc n)
 
 -- both texts are accepted
-pub record TextsHold (rules saved : List ℕ) (read : List Rule) (s : State) : Type 0 where
-  pub all-rules : RulesThen rules read []
+pub record TextsHold (rules saved : List ℕ) (rights : List RightSlot) (read : List Rule) (s : State) : Type 0 where
+  pub all-rules : RulesThen rules rights read []
   pub all-lines : GoodText saved s
   pub all-hold : obeys read s ≡ true
 
 -- steps run over a saved state
 pub record RunsSaved (rules saved text : List ℕ) (list : RuleList) (s : State) (given : List Step) : Type 0 where
   pub short : length text ≤ 65536
+  pub rights : List RightSlot
   pub read : List Rule
-  pub texts : TextsHold rules saved read s
-  pub same : list ≡ listOf read
+  pub texts : TextsHold rules saved rights read s
+  pub same : list ≡ listOf rights read
   pub all-steps : readSteps 1 text ≡ steps given
 
 -- which text or space is refused, by which number, at which place (a line, for 17 a rule, for 18 the length that is needed)
@@ -92,9 +93,9 @@ pub data RunRefused (rules saved text : List ℕ) (answersRoom stateRoom : ℕ) 
   -- the steps are held to the program's length: "19 has line 0 and comes before all else"
   long-steps : 65536 < length text → RunRefused rules saved text answersRoom stateRoom Text.Steps 19 0
   bad-rules : (number n : ℕ) → length text ≤ 65536 → rule.FirstBad rules number n → RunRefused rules saved text answersRoom stateRoom Text.Rules number n
-  bad-state : (read : List Rule) (number place : ℕ) → length text ≤ 65536 → RulesThen rules read [] → StateCause read saved number place
+  bad-state : (rights : List RightSlot) (read : List Rule) (number place : ℕ) → length text ≤ 65536 → RulesThen rules rights read [] → StateCause read saved number place
       → RunRefused rules saved text answersRoom stateRoom Text.State number place
-  bad-steps : (read : List Rule) (s : State) (n : ℕ) → length text ≤ 65536 → TextsHold rules saved read s → step.FirstBadStep 1 text n
+  bad-steps : (rights : List RightSlot) (read : List Rule) (s : State) (n : ℕ) → length text ≤ 65536 → TextsHold rules saved rights read s → step.FirstBadStep 1 text n
       → RunRefused rules saved text answersRoom stateRoom Text.Steps 10 n
   -- "lent space shorter than the text or answers"; the answers' space comes first
   short-answers : (list : RuleList) (s : State) (given : List Step) → RunsSaved rules saved text list s given

@@ -1,6 +1,7 @@
--- Document 01, 'Texts': "The program `gate` reads at most 65,536 bytes from standard input: rules, `(steps)`, steps."
+-- Document 01, 'Texts': "The program `gate` reads at most 65,536 bytes from standard input: rules, `(steps)`, steps."; 2026-05: rights stand
+-- "before the rules".
 -- Assumes nothing.
-use Prim.Native.Nat.{ℕ, suc, _+_}
+use Prim.Native.Nat.{ℕ, _+_}
 use mathlib.Core.Bool.{Bool, cond}
 use mathlib.Core.List.{List}
 use lib.ListN.{length, drop}
@@ -10,6 +11,7 @@ use Rattle.rules.specs.declared.lists.RuleList.{RuleList}
 use Rattle.enforcement.specs.States.{fresh}
 use Rattle.enforcement.specs.Gate.{runOf}
 use Rattle.steps.specs.declared.steps.Step.{Step}
+use Rattle.rule_text.specs.Lines.{nextLine}
 use Rattle.rule_text.specs.Reading.{LinesRead, readLines, listOf}
 use Rattle.step_text.specs.Lines.{StepsRead, steps, bad, readSteps}
 use Rattle.step_text.specs.Answers.{badText, answersText}
@@ -35,12 +37,12 @@ stepsOutcome list line (bad k) = badAt 10 (line + k)
 unfoldable pub numberWithoutSteps : ℕ → ℕ
 numberWithoutSteps number = cond (eqb number 0) 10 number
 
--- what follows the good lines of the rules
+-- what follows the good lines of the rights and the rules
 unfoldable pub afterRules : LinesRead → List ℕ → Outcome
-afterRules rules rest =
+afterRules lines rest =
     cond (startsSteps rest)
-    (stepsOutcome (listOf (rules .rules)) (suc (length (rules .rules))) (readSteps 1 (drop 8 rest)))
-    (badAt (numberWithoutSteps (rules .number)) (suc (length (rules .rules))))
+    (stepsOutcome (listOf (lines .rights) (lines .rules)) (nextLine (lines .rights) (lines .rules)) (readSteps 1 (drop 8 rest)))
+    (badAt (numberWithoutSteps (lines .number)) (nextLine (lines .rights) (lines .rules)))
 
 -- "19 has line 0 and comes before all else"
 unfoldable pub outcomeOf : List ℕ → Outcome

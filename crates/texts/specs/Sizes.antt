@@ -10,6 +10,8 @@ use Rattle.places.specs.declared.Shape.the-variants.{Box}
 use Rattle.places.specs.declared.Side.the-variants.{Outside}
 use Rattle.rules.specs.declared.families.Rule.{Rule}
 use Rattle.rules.specs.declared.families.Rule.the-variants.{LocationContext}
+use Rattle.rules.specs.declared.rights.Right.the-variants.{Permission}
+use Rattle.rules.specs.declared.rights.RightSlot.{RightSlot}
 use Rattle.rules.specs.declared.sessions.Session.{Session}
 use Rattle.loans.specs.Loans.{loanOf, stored}
 use Rattle.loans.specs.declared.Loan.{Loan}
@@ -47,3 +49,7 @@ longestRule = LocationContext 31 (Outside (Box (negsuc 999999) (negsuc 999999) (
 
 unfoldable pub longestRules : List Rule
 longestRules = replicate 128 longestRule
+
+-- 2026-05: every kind, with a permission of two digits
+unfoldable pub longestRights : List RightSlot
+longestRights = replicate 6 (record { right = Permission 31 })

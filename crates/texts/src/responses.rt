@@ -73,7 +73,7 @@ fn put_response(input: &[u8], out: &mut [u8], at: usize) -> usize
 
 // The answers to the steps, every line of which is read before any step runs; `line` is the line before them.
 fn put_steps(list: RuleList, line: usize, text: &[u8], out: &mut [u8], at: usize) -> usize
-    requires { ⌜ (line ≤ 129) × (length (now text) ≤ 65536) ⌝ }
+    requires { ⌜ (line ≤ 135) × (length (now text) ≤ 65536) ⌝ }
     ensures { λ r. ⌜ Wrote (now (out .entry)) at (outcomeText (stepsOutcome list line (readSteps 1 (now (text .entry))))) r (now (out .exit)) ⌝ }
 {
     let bad = step_text::first_bad_step(text);

@@ -7,7 +7,7 @@ use lib.ListN.{length, take, drop, length-drop}
 use borrow.Author.Tests.{not-true, not-false}
 use Rattle.forms.proofs.Puts.{like}
 use Rattle.forms.proofs.Turns.{rest}
-use Rattle.texts.proofs.Responding.{starts-room, lines-few, prefix-line, prefix-within, too-long, response-without, response-with}
+use Rattle.texts.proofs.Responding.{starts-room, line-most, prefix-line, prefix-within, too-long, response-without, response-with}
 use borrow.Author.Needs.{needs}
 use Rattle.texts.proofs.responses.put_response.Statement.{statement}
 use Rattle.texts.proofs.responses.put_response.Tie as tie
@@ -78,7 +78,7 @@ put-steps-requires : tie.Need-put-steps-requires
 put-steps-requires c κs =
     let input = c .before .before .before .before .before .before .before .before .before .before .args .input .now in
     let prefix = c .before .before .before .before .before .before .read-prefix in (
-      omega (arith, prefix-line input (prefix .result) (prefix .ensures), lines-few input),
+      omega (arith, prefix-line input (prefix .result) (prefix .ensures), line-most input),
       short input (prefix .result .length) (c .before .before .before .before .before .before .before .if1 .left),
     )
 
