@@ -46,6 +46,7 @@ int main(void)
     make_empty_pointers();
     expect("the version of the archive", pitch_gate_version() == PITCH_GATE_VERSION);
     expect("the cause of 13", strcmp(pitch_gate_cause(PITCH_GATE_SAME_TWICE), "same role or permission twice in a rule") == 0);
+    expect("the cause of 53", strcmp(pitch_gate_cause(PITCH_GATE_ACTING_NOT_OPEN), "acting session not open") == 0);
     expect("the cause of no number", strcmp(pitch_gate_cause(29), "a number that this header does not know") == 0);
     try_calls();
     try_runs();

@@ -27,6 +27,9 @@
  *   - A saved text that was cut is not noticed where it is cut after a line feed: each beginning of a saved text that ends
  *     so may be a saved text itself. Store its length or a checksum beside it.
  *   - After a handover only one end may go on from the state: the library cannot see that two did.
+ *   - Where the rule list has right lines, `(by s ..)` names the session that acts. The library cannot see who sent a step: the
+ *     hub writes the session of whoever asked, and lets nobody write another's. Under all six right lines nothing can be assigned
+ *     from the fresh state: start from a saved state in which somebody has the rights.
  *
  * What a call promises, whatever bytes the texts hold
  *   - It ends, and is a function of the bytes that it is lent: no heap, no threads, no global state, no input or output.
@@ -65,7 +68,9 @@
  *   The texts of version 1 are read, and mean what they meant but for one: a term (week a b h k) with h > k now belongs to the
  *   day on which the shift begins. Under such a rule a state that version 1 saved may be 17. All ends that share records take
  *   the same major version. Version 2.1 adds (move s x y e) and (place s x y e), a position known to e metres: both are 10 to
- *   2.0, so take 2.1 at every end before the first e is sent.
+ *   2.0, so take 2.1 at every end before the first e is sent. Version 2.2 adds right lines, (right assign 30), and steps with an
+ *   acting session, (by s (assign u r)), with the numbers 53 and 54: both lines are 10 to 2.1, so take 2.2 at every end before the
+ *   first of them is sent.
  */
 #ifndef PITCH_GATE_H
 #define PITCH_GATE_H
@@ -77,7 +82,7 @@
 extern "C" {
 #endif
 
-#define PITCH_GATE_VERSION 20100 /* 2.1.0 */
+#define PITCH_GATE_VERSION 20200 /* 2.2.0 */
 
 /* The version of the archive that is linked, as PITCH_GATE_VERSION is of this header. */
 uint64_t pitch_gate_version(void);
@@ -89,7 +94,7 @@ enum pitch_gate_number {
     /* returned by the functions below */
     PITCH_GATE_NO_FORM = 10,                   /* line is no form of its text */
     PITCH_GATE_NUMBER_OUT_OF_RANGE = 11,       /* number outside its range (rules, saved) */
-    PITCH_GATE_RULE_NOT_NEXT = 12,             /* rule number not the next */
+    PITCH_GATE_RULE_NOT_NEXT = 12,             /* rule number not the next; right line second of its kind, out of order or after a rule */
     PITCH_GATE_SAME_TWICE = 13,                /* same role or permission twice in a rule */
     PITCH_GATE_TERM_OR_SHAPE_UNSOUND = 14,     /* no such date, A after B, h = k, box a > c or b > d */
     PITCH_GATE_OUT_OF_ORDER = 15,              /* saved line out of order or twice */
@@ -99,7 +104,7 @@ enum pitch_gate_number {
     PITCH_GATE_INPUT_TOO_LONG = 19,            /* program input too long */
 
     /* in the answer to a step, `(no number rule selected)`; of these 51 alone is also returned, for a saved state */
-    PITCH_GATE_STEP_OUT_OF_RANGE = 20,         /* step's number, its kind's included, outside its range */
+    PITCH_GATE_STEP_OUT_OF_RANGE = 20,         /* step's number, its kind's and its acting session's included, outside its range */
     PITCH_GATE_TIME_PAST = 21,                 /* t before the present time */
     PITCH_GATE_SESSION_OPEN = 22,              /* session open */
     PITCH_GATE_SESSION_NOT_OPEN = 23,          /* session not open */
@@ -111,7 +116,9 @@ enum pitch_gate_number {
     PITCH_GATE_RULE_BROKEN = 30,               /* a rule broken in the target */
     PITCH_GATE_LENDER_NOT_ASSIGNED = 50,       /* lender not assigned the role */
     PITCH_GATE_TOO_MANY_LOANS = 51,            /* 32 loans run; a thirty-third saved loan */
-    PITCH_GATE_LOAN_NOT_LATER = 52             /* loan's time not later than now */
+    PITCH_GATE_LOAN_NOT_LATER = 52,            /* loan's time not later than now */
+    PITCH_GATE_ACTING_NOT_OPEN = 53,           /* acting session not open */
+    PITCH_GATE_RIGHT_LACKING = 54              /* right lacking: no acting session, or no role active in it carries the permission */
 };
 
 /* The cause of a number in words, for people and logs. */
@@ -121,7 +128,7 @@ static inline const char *pitch_gate_cause(uint64_t number)
     case 0: return "the call completed";
     case 10: return "line is no form of its text";
     case 11: return "number outside its range (rules, saved)";
-    case 12: return "rule number not the next";
+    case 12: return "rule number not the next; right line second of its kind, out of order or after a rule";
     case 13: return "same role or permission twice in a rule";
     case 14: return "no such date, A after B, h = k, box a > c or b > d";
     case 15: return "saved line out of order or twice";
@@ -129,7 +136,7 @@ static inline const char *pitch_gate_cause(uint64_t number)
     case 17: return "saved state breaks a rule";
     case 18: return "lent space shorter than the text or answers";
     case 19: return "program input too long";
-    case 20: return "step's number, its kind's included, outside its range";
+    case 20: return "step's number, its kind's and its acting session's included, outside its range";
     case 21: return "t before the present time";
     case 22: return "session open";
     case 23: return "session not open";
@@ -142,6 +149,8 @@ static inline const char *pitch_gate_cause(uint64_t number)
     case 50: return "lender not assigned the role";
     case 51: return "32 loans run; a thirty-third saved loan";
     case 52: return "loan's time not later than now";
+    case 53: return "acting session not open";
+    case 54: return "right lacking: no acting session, or no role active in it carries the permission";
     default: return "a number that this header does not know";
     }
 }
@@ -174,7 +183,7 @@ _Static_assert(sizeof(struct pitch_gate_report) == 32, "the library fills four n
 #define PITCH_GATE_INPUT_MOST 65536
 
 /* No accepted text is longer. */
-#define PITCH_GATE_RULES_MOST 8980   /* a rule list: 128 boxes */
+#define PITCH_GATE_RULES_MOST 9085   /* a rule list: six right lines and 128 boxes */
 #define PITCH_GATE_STATE_MOST 997981 /* a saved state: every role assigned or lent, 32 of them lent, the longest times, users, positions and errors */
 
 /* Spaces that are always long enough; for a saved state PITCH_GATE_STATE_MOST, for a rule list PITCH_GATE_RULES_MOST. */

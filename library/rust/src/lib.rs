@@ -42,7 +42,7 @@ pub use room::{ANSWER_MOST, FRESH_MOST, INPUT_MOST, OUTPUT_MOST, RULES_MOST, STA
 use raw::Report;
 
 /// The version that this crate was written for: 10,000 times the major version, 100 times the minor one, and the third number.
-pub const VERSION: u64 = 20_100;
+pub const VERSION: u64 = 20_200;
 
 /// The version of the library that is linked, as [`VERSION`] is of this crate.
 pub fn version() -> u64 {

@@ -42,12 +42,12 @@ impl Text {
     }
 }
 
-/// The cause of a number in words, of an answer's number (20 to 30, 50 to 52) too; none for a number without a cause.
+/// The cause of a number in words, of an answer's number (20 to 30, 50 to 54) too; none for a number without a cause.
 pub fn cause(number: u64) -> Option<&'static str> {
     let cause = match number {
         10 => "line is no form of its text",
         11 => "number outside its range (rules, saved)",
-        12 => "rule number not the next",
+        12 => "rule number not the next; right line second of its kind, out of order or after a rule",
         13 => "same role or permission twice in a rule",
         14 => "no such date, A after B, h = k, box a > c or b > d",
         15 => "saved line out of order or twice",
@@ -55,7 +55,7 @@ pub fn cause(number: u64) -> Option<&'static str> {
         17 => "saved state breaks a rule",
         18 => "lent space shorter than the text or answers",
         19 => "program input too long",
-        20 => "step's number, its kind's included, outside its range",
+        20 => "step's number, its kind's and its acting session's included, outside its range",
         21 => "t before the present time",
         22 => "session open",
         23 => "session not open",
@@ -68,6 +68,8 @@ pub fn cause(number: u64) -> Option<&'static str> {
         50 => "lender not assigned the role",
         51 => "32 loans run; a thirty-third saved loan",
         52 => "loan's time not later than now",
+        53 => "acting session not open",
+        54 => "right lacking: no acting session, or no role active in it carries the permission",
         _ => return None,
     };
     Some(cause)

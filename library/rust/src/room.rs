@@ -24,10 +24,16 @@ pub const STATE_MOST: usize = "(now 3155759999)\n".len()
     + every("(active  )\n", &[SESSIONS, ROLES])
     + every("(did   )\n", &[OBJECTS, PERMISSIONS, USERS]);
 
-/// Bytes that hold any rule list: 128 rules, each on the outside of a box at the corner of the grid whose coordinates are longest.
-pub const RULES_MOST: usize = RULES * "(rule  (at 31 (outside (box -1000000 -1000000 -1000000 -1000000))))\n".len()
+/// Bytes that hold any rule list: a right line of each kind, and 128 rules, each on the outside of a box at the corner of the grid whose
+/// coordinates are longest.
+pub const RULES_MOST: usize = RIGHT_LINES.len()
+    + RULES * "(rule  (at 31 (outside (box -1000000 -1000000 -1000000 -1000000))))\n".len()
     + digits_below(RULES + 1)
     - "0".len();
+
+/// The six right lines, with the longest permissions.
+const RIGHT_LINES: &str =
+    "(right assign 31)\n(right withdraw 31)\n(right grant 31)\n(right take 31)\n(right lend 31)\n(right recall 31)\n";
 
 /// Bytes of the fresh state.
 pub const FRESH_MOST: usize = "(now 0)\n".len();

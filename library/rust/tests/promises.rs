@@ -12,6 +12,8 @@ const LISTING_STATE: &[u8] = b"(now 0)\n(assigned 5 1)\n(assigned 6 2)\n(open 1 
 
 const RULES: &[u8] = b"(rule 1 (needs 2 1))\n(rule 2 (apart 1 3))\n";
 const BAD_RULES: &[u8] = b"(rule 1 (needs 2 1))\n(rule 2 (apart 3 3))\n";
+const RIGHTS: &[u8] =
+    b"(right assign 30)\n(right withdraw 30)\n(right grant 31)\n(right take 31)\n(right lend 29)\n(right recall 29)\n";
 const FRESH: &[u8] = b"(now 0)\n";
 const STATE: &[u8] = b"(now 0)\n(assigned 5 1)\n";
 const BREAKING_STATE: &[u8] = b"(now 0)\n(assigned 5 1)\n(assigned 5 3)\n";
@@ -83,10 +85,17 @@ fn respond_into_refuses_a_space_that_is_too_short() {
 fn check_rules_accepts_and_refuses() {
     assert_eq!(told(check_rules(b"")), Ok(()));
     assert_eq!(told(check_rules(RULES)), Ok(()));
-    let refused: [(&[u8], u64, u64); 5] = [
+    assert_eq!(told(check_rules(RIGHTS)), Ok(()));
+    let refused: [(&[u8], u64, u64); 11] = [
         (b"(rule 1 (needs 2 1))", 10, 1),
+        (b"(right clock 3)\n", 10, 1),
         (b"(rule 1 (needs 2 32))\n", 11, 1),
+        (b"(right assign 32)\n", 11, 1),
         (b"(rule 1 (needs 2 1))\n(rule 3 (apart 1 3))\n", 12, 2),
+        (b"(right assign 3)\n(right assign 4)\n", 12, 2),
+        (b"(right take 3)\n(right grant 3)\n", 12, 2),
+        (b"(right assign 3)\n(rule 1 (needs 2 1))\n(right take 3)\n", 12, 3),
+        (b"(right assign 3)\n(rule 2 (needs 2 1))\n", 12, 2),
         (BAD_RULES, 13, 2),
         (b"(rule 1 (during 2 (dates 20230229 20230301)))\n", 14, 1),
     ];
@@ -99,6 +108,8 @@ fn check_rules_accepts_and_refuses() {
 fn copy_rules_writes_the_same_bytes() {
     assert_eq!(copy_rules(b"").unwrap(), b"");
     assert_eq!(copy_rules(RULES).unwrap(), RULES);
+    assert_eq!(copy_rules(RIGHTS).unwrap(), RIGHTS);
+    assert_eq!(copy_rules(&[RIGHTS, RULES].concat()).unwrap(), [RIGHTS, RULES].concat());
     let mut copy = space(RULES.len() + 3);
     assert_eq!(told(copy_rules_into(RULES, &mut copy)), Ok(RULES.len()));
     assert_eq!(copy.strip_prefix(RULES), Some(&[UNTOUCHED; 3][..]));
@@ -141,7 +152,9 @@ fn a_space_of_the_length_that_18_names_is_enough() {
 #[test]
 fn the_longest_rule_list_fills_its_space() {
     let rule = |number| format!("(rule {number} (at 31 (outside (box -1000000 -1000000 -1000000 -1000000))))\n");
-    let rules: String = (1..=128).map(rule).collect();
+    let kinds = ["assign", "withdraw", "grant", "take", "lend", "recall"];
+    let rights = kinds.map(|kind| format!("(right {kind} 31)\n")).concat();
+    let rules: String = rights + &(1..=128).map(rule).collect::<String>();
     assert_eq!(rules.len(), RULES_MOST);
     assert_eq!(copy_rules(rules.as_bytes()).unwrap(), rules.as_bytes());
     let mut short = space(RULES_MOST - 1);
@@ -258,6 +271,55 @@ fn run_steps_answers_what_cannot_be_lent_or_taken_from_a_lender() {
     let steps: String = asked.iter().map(|(step, _)| format!("{step}\n")).collect();
     let answers: String = asked.iter().map(|(_, answer)| format!("{answer}\n")).collect();
     assert_eq!(ran(RULES, state, steps.as_bytes()), Ok((answers.into_bytes(), b"(now 60)\n(assigned 8 1)\n".to_vec())));
+}
+
+/// User 8 has every right by role 6, which is active in session 0 and not in session 1.
+const SAVED_RIGHTS: &[u8] =
+    b"(now 0)\n(assigned 5 2)\n(assigned 8 6)\n(granted 6 29)\n(granted 6 30)\n(granted 6 31)\n(open 0 8)\n\
+    (active 0 6)\n(open 1 8)\n(open 2 5)\n";
+
+#[test]
+fn run_steps_asks_for_the_right_of_the_acting_session() {
+    let asked: [(&str, &str); 15] = [
+        ("(assign 6 2)", "(no 54 0 0)"),
+        ("(by 1 (assign 6 2))", "(no 54 0 0)"),
+        ("(by 2 (assign 6 2))", "(no 54 0 0)"),
+        ("(by 3 (assign 6 2))", "(no 53 0 0)"),
+        ("(by 32 (assign 6 2))", "(no 20 0 0)"),
+        ("(by 9999999999 (assign 6 2))", "(no 20 0 0)"),
+        ("(by 0 (assign 64 2))", "(no 20 0 0)"),
+        ("(by 0 (assign 5 2))", "(no 24 0 0)"),
+        ("(by 0 (assign 6 2))", "(yes 0 0)"),
+        ("(by 0 (grant 2 1))", "(yes 0 0)"),
+        ("(by 0 (lend 5 7 2 60))", "(yes 0 0)"),
+        ("(by 0 (recall 5 7 2))", "(yes 0 0)"),
+        ("(by 0 (withdraw 5 2))", "(yes 0 0)"),
+        ("(by 0 (take 6 31))", "(yes 0 0)"),
+        ("(by 0 (grant 6 31))", "(no 54 0 0)"),
+    ];
+    let steps: String = asked.iter().map(|(step, _)| format!("{step}\n")).collect();
+    let answers: String = asked.iter().map(|(_, answer)| format!("{answer}\n")).collect();
+    let next = b"(now 0)\n(assigned 6 2)\n(assigned 8 6)\n(granted 2 1)\n(granted 6 29)\n(granted 6 30)\n(open 0 8)\n(active 0 6)\n\
+        (open 1 8)\n(open 2 5)\n";
+    assert_eq!(ran(RIGHTS, SAVED_RIGHTS, steps.as_bytes()), Ok((answers.into_bytes(), next.to_vec())));
+}
+
+#[test]
+fn run_steps_without_right_lines_takes_any_open_acting_session() {
+    let steps = b"(by 0 (assign 6 2))\n(by 1 (grant 2 1))\n(by 3 (assign 7 2))\n(assign 7 2)\n";
+    let next = b"(now 0)\n(assigned 5 2)\n(assigned 6 2)\n(assigned 7 2)\n(assigned 8 6)\n(granted 2 1)\n(granted 6 29)\n(granted 6 30)\n\
+        (granted 6 31)\n(open 0 8)\n(active 0 6)\n(open 1 8)\n(open 2 5)\n";
+    let answers = b"(yes 0 0)\n(yes 0 0)\n(no 53 0 0)\n(yes 0 0)\n";
+    assert_eq!(ran(b"", SAVED_RIGHTS, steps), Ok((answers.to_vec(), next.to_vec())));
+}
+
+#[test]
+fn run_steps_refuses_by_before_another_kind_or_another_by() {
+    let bad: [&[u8]; 4] =
+        [b"(by 0 (close 0))\n", b"(by 0 (by 0 (assign 6 2)))\n", b"(by 0 (assign 6 2)\n", b"(by 00 (assign 6 2))\n"];
+    for steps in bad {
+        assert_eq!(ran(RIGHTS, SAVED_RIGHTS, steps), Err((10, Text::Steps, 1)));
+    }
 }
 
 /// User 5 has lent role 3 to so many others.
@@ -385,6 +447,10 @@ fn a_refusal_names_its_cause() {
         "refused with 18 in the space for the saved state, which needs 8 bytes: lent space shorter than the text or answers"
     );
     assert_eq!(
+        check_rules(b"(right assign 3)\n(right assign 4)\n").unwrap_err().to_string(),
+        "refused with 12 in the rule list, line 2: rule number not the next; right line second of its kind, out of order or after a rule"
+    );
+    assert_eq!(
         run_steps(RULES, STATE, b"(revoke 5 1)\n").unwrap_err().to_string(),
         "refused with 10 in the steps, line 1: line is no form of its text"
     );
@@ -393,7 +459,7 @@ fn a_refusal_names_its_cause() {
 #[test]
 fn each_number_has_its_own_cause() {
     let causes: Vec<&str> = (0..100).filter_map(cause).collect();
-    assert_eq!(causes.len(), 23);
+    assert_eq!(causes.len(), 25);
     assert!(causes.iter().all(|one| causes.iter().filter(|other| *other == one).count() == 1));
     assert_eq!((cause(0), cause(29), cause(40)), (None, None, None));
 }

@@ -5,12 +5,16 @@ use crate::place_kinds::{
     has_an_error, outcome_kinds, place_kinds_to_meet, refused_line_kind, refused_move_kind,
     without_errors,
 };
-use crate::plain::gate::{Answer, Outcome};
+use crate::plain::gate::{run, Answer, Outcome};
 use crate::plain::ranges::MOST_LOANS;
-use crate::plain::rules::Rule;
+use crate::plain::rules::{Rule, RuleList};
 use crate::plain::selected::selects;
 use crate::plain::state::State;
-use crate::plain::steps::Step;
+use crate::plain::steps::{Action, Step};
+use crate::right_kinds::{
+    acting_kinds, list_kinds, own_step_kind, refused_acting_kind, refused_right_kind,
+    right_kinds_to_meet,
+};
 use std::collections::BTreeMap;
 
 /// A group, a name in it, and a number where the kind has one.
@@ -80,12 +84,13 @@ const FAMILIES: [&str; 19] = [
     "same-hand",
 ];
 
-/// The column "Checks" of the table, with 20 before all; of lend and recall those of 2026-01.
+/// The column "Checks" of the table, with 20 before all; of lend and recall those of 2026-01; 53
+/// and 54 of 2026-05 after 20.
 const STEPS: [(&str, &[u64]); 15] = [
-    ("assign", &[20, 24, 30]),
-    ("withdraw", &[20, 25, 27, 30]),
-    ("grant", &[20, 24, 30]),
-    ("take", &[20, 25]),
+    ("assign", &[20, 53, 54, 24, 30]),
+    ("withdraw", &[20, 53, 54, 25, 27, 30]),
+    ("grant", &[20, 53, 54, 24, 30]),
+    ("take", &[20, 53, 54, 25]),
     ("open", &[20, 22]),
     ("activate", &[20, 23, 24, 26, 30]),
     ("deactivate", &[20, 23, 25, 30]),
@@ -95,8 +100,8 @@ const STEPS: [(&str, &[u64]); 15] = [
     ("move", &[20, 23]),
     ("lost", &[20, 23]),
     ("clock", &[20, 21]),
-    ("lend", &[20, 50, 24, 52, 51, 30]),
-    ("recall", &[20, 25]),
+    ("lend", &[20, 53, 54, 50, 24, 52, 51, 30]),
+    ("recall", &[20, 53, 54, 25]),
 ];
 
 pub const INPUT: &str = "the input";
@@ -152,9 +157,15 @@ impl Counts {
         self.add((SAVED_BROKEN, rule.family(), 0));
     }
 
-    /// The line of a text that earned the refusal.
-    pub fn refused_line(&mut self, line: &[u8], number: u64) {
+    pub fn list_read(&mut self, list: &RuleList) {
+        self.add_all(list_kinds(list));
+    }
+
+    /// The line of a text that earned the refusal, and the text before it.
+    pub fn refused_line(&mut self, before: &[u8], line: &[u8], number: u64) {
         self.add_all(refused_line_kind(line, number));
+        self.add_all(refused_right_kind(before, line, number));
+        self.add_all(refused_acting_kind(line));
     }
 
     /// A saved state that was read under the rules.
@@ -177,49 +188,51 @@ impl Counts {
         }
     }
 
-    pub fn step(&mut self, rules: &[Rule], step: &Step, outcome: &Outcome) {
+    pub fn step(&mut self, list: &RuleList, step: &Step, outcome: &Outcome) {
+        let (rules, action) = (&list.rules, &step.action);
         let number = match outcome.answer {
             Answer::Yes { .. } => NOT_REFUSED,
             Answer::No { number, .. } => number,
         };
         self.add((ANSWER, NOTHING, number));
-        self.add((STEP, step.name(), number));
-        self.on_loan(step, number, &outcome.state);
-        self.with_an_error(rules, step, number, &outcome.state);
+        self.add((STEP, action.name(), number));
+        self.add_all(acting_kinds(list, step, number, outcome));
+        self.on_loan(action, number, &outcome.state);
+        self.with_an_error(rules, action, number, &outcome.state);
         match outcome.answer {
-            Answer::Yes { ended, .. } => self.ended(step, ended, outcome),
+            Answer::Yes { ended, .. } => self.ended(action, ended, outcome),
             Answer::No { number: 30, rule, .. } => {
-                let target = step.target(&outcome.state);
+                let target = action.target(&outcome.state);
                 self.broken(&rules[rule as usize - 1], outcome.broken, target);
             }
             Answer::No { .. } => return,
         }
-        for rule in rules.iter().filter(|rule| selects(step, rule)) {
+        for rule in rules.iter().filter(|rule| selects(action, rule)) {
             self.add((SELECTED, rule.family(), 0));
         }
     }
 
     /// What a step met that loans alone bring about.
-    fn on_loan(&mut self, step: &Step, number: u64, state: &State) {
-        let kind = match *step {
-            Step::Assign { user, role } if number == 24 && !state.is_assigned(user, role) => {
+    fn on_loan(&mut self, action: &Action, number: u64, state: &State) {
+        let kind = match *action {
+            Action::Assign { user, role } if number == 24 && !state.is_assigned(user, role) => {
                 (ON_LOAN, ASSIGN_REFUSED, 0)
             }
-            Step::Lend { borrower, role, .. }
+            Action::Lend { borrower, role, .. }
                 if number == 24 && !state.is_assigned(borrower, role) =>
             {
                 (ON_LOAN, LEND_REFUSED, 0)
             }
-            Step::Activate { session, role }
+            Action::Activate { session, role }
                 if number == NOT_REFUSED
                     && !state.is_assigned(state.sessions[&session].user, role) =>
             {
                 (ON_LOAN, ACTIVATED, 0)
             }
-            Step::Withdraw { user, role } if number == 27 && !state.is_active_for(user, role) => {
+            Action::Withdraw { user, role } if number == 27 && !state.is_active_for(user, role) => {
                 (LENT_OUT, NOTHING, 0)
             }
-            Step::Lend { .. } if number == NOT_REFUSED && state.loans.len() == MOST_LOANS => {
+            Action::Lend { .. } if number == NOT_REFUSED && state.loans.len() == MOST_LOANS => {
                 (MOST_LOANS_RUN, NOTHING, 0)
             }
             _ => return,
@@ -228,13 +241,13 @@ impl Counts {
     }
 
     /// What a step met that errors alone bring about.
-    fn with_an_error(&mut self, rules: &[Rule], step: &Step, number: u64, state: &State) {
-        self.add_all(refused_move_kind(step, number));
-        match *step {
-            Step::Move { reported, .. } if number == NOT_REFUSED => {
+    fn with_an_error(&mut self, rules: &[Rule], action: &Action, number: u64, state: &State) {
+        self.add_all(refused_move_kind(action, number));
+        match *action {
+            Action::Move { reported, .. } if number == NOT_REFUSED => {
                 self.add_all(outcome_kinds(rules, reported));
             }
-            Step::Activate { session, role: added } if number == NOT_REFUSED => {
+            Action::Activate { session, role: added } if number == NOT_REFUSED => {
                 let position = state.sessions[&session].position;
                 let is_of_it =
                     |rule: &&Rule| matches!(**rule, Rule::At { role, .. } if role == added);
@@ -245,6 +258,15 @@ impl Counts {
             }
             _ => {}
         }
+    }
+
+    /// A list of a user's own steps, none of which may change what is assigned or carried.
+    pub fn own_steps(&mut self, list: &RuleList, start: &State, steps: &[Step]) {
+        let counted = &mut self.kinds;
+        run(list, start.clone(), steps, &mut |_, step, outcome| {
+            let kind = own_step_kind(step, outcome);
+            *counted.entry(kind).or_default() += 1;
+        });
     }
 
     fn broken(&mut self, rule: &Rule, broken: usize, target: State) {
@@ -260,35 +282,35 @@ impl Counts {
         }
     }
 
-    fn ended(&mut self, step: &Step, ended: u64, outcome: &Outcome) {
-        if !step.is_event() {
+    fn ended(&mut self, action: &Action, ended: u64, outcome: &Outcome) {
+        if !action.is_event() {
             return;
         }
-        self.ended_with_loans(step, outcome);
+        self.ended_with_loans(action, outcome);
         if ended >= 2 {
-            self.add((ENDED, step.name(), 0));
+            self.add((ENDED, action.name(), 0));
         }
         if ended >= 2 && outcome.ending.searched {
-            self.add((ENDED_SEARCHED, step.name(), 0));
+            self.add((ENDED_SEARCHED, action.name(), 0));
         }
         if outcome.ending.rounds >= 2 {
-            self.add((ENDED_IN_ROUNDS, step.name(), 0));
+            self.add((ENDED_IN_ROUNDS, action.name(), 0));
         }
         if outcome.ending.unsure > 0 {
-            self.add((ENDED_UNSURE, step.name(), 0));
+            self.add((ENDED_UNSURE, action.name(), 0));
         }
     }
 
-    fn ended_with_loans(&mut self, step: &Step, outcome: &Outcome) {
+    fn ended_with_loans(&mut self, action: &Action, outcome: &Outcome) {
         if outcome.ending.loans == 0 {
             return;
         }
-        self.add((LOAN_ENDED, step.name(), 0));
+        self.add((LOAN_ENDED, action.name(), 0));
         if outcome.ending.closed > 0 {
-            self.add((CLOSED, step.name(), 0));
+            self.add((CLOSED, action.name(), 0));
         }
         if outcome.ending.closed > 0 && outcome.ending.rounds > 0 {
-            self.add((CLOSED_THEN_ENDED, step.name(), 0));
+            self.add((CLOSED_THEN_ENDED, action.name(), 0));
         }
     }
 
@@ -349,6 +371,7 @@ fn kinds_to_meet() -> Vec<Kind> {
         kinds.extend(groups.map(|group| (group, family, 0)));
     }
     kinds.extend(place_kinds_to_meet());
+    kinds.extend(right_kinds_to_meet());
     kinds.extend(DAMAGES.iter().map(|&(damage, _)| (DAMAGED, damage, 0)));
     kinds
 }

@@ -5,7 +5,7 @@ use crate::plain::places::{PlaceOutcome, Position, Reported, Shape};
 use crate::plain::rules::Rule;
 use crate::plain::state::{Session, State};
 use crate::plain::step_text::read_step;
-use crate::plain::steps::Step;
+use crate::plain::steps::{Action, Step};
 
 const OUTCOME: &str = "place test with an error";
 const MOVE: &str = "error of a move, the line or step refused";
@@ -146,10 +146,10 @@ fn beyond(low: i64, value: i64, high: i64) -> i64 {
 }
 
 /// A step that is refused for its error alone, and how that is written.
-pub fn refused_move_kind(step: &Step, number: u64) -> Option<Kind> {
-    match *step {
-        Step::Move { session, reported: Reported { position, error } } if number == 20 => {
-            let without_error = Step::Move { session, reported: Reported { position, error: 0 } };
+pub fn refused_move_kind(action: &Action, number: u64) -> Option<Kind> {
+    match *action {
+        Action::Move { session, reported: Reported { position, error } } if number == 20 => {
+            let without_error = Action::Move { session, reported: Reported { position, error: 0 } };
             let name = written_as(&error.to_string())?;
             without_error.is_in_range().then_some((MOVE, name, number))
         }
@@ -166,8 +166,9 @@ pub fn refused_line_kind(line: &[u8], number: u64) -> Option<Kind> {
         ("(place", others) => (PLACE, others),
         _ => return None,
     };
-    let without_error = read_step(Some(format!("(move {others})").as_bytes()))?;
-    let is_good = matches!(without_error, Step::Move { reported: Reported { error: 0, .. }, .. })
+    let Step { action: without_error, .. } =
+        read_step(Some(format!("(move {others})").as_bytes()))?;
+    let is_good = matches!(without_error, Action::Move { reported: Reported { error: 0, .. }, .. })
         && without_error.is_in_range();
     is_good.then_some((group, written_as(error)?, number))
 }

@@ -169,12 +169,13 @@ fn limits_and_apart_read_held_and_before_reads_assigned() {
 /// In a target with a role that nobody holds any more, the largest part is one of what is left.
 #[test]
 fn the_state_after_loans_have_ended() {
-    let rules = read_rules(b"(rule 1 (needs 2 1))\n").unwrap();
+    let list = read_rules(b"(rule 1 (needs 2 1))\n").unwrap();
     let saved = b"(now 9)\n(assigned 5 1)\n(assigned 6 2)\n(loan 5 6 1 10)\n(loan 5 7 1 11)\n\
         (open 0 6)\n(place 0 3 4)\n(active 0 1)\n(active 0 2)\n(open 1 7)\n(active 1 1)\n";
     let after = |steps: &[u8]| {
-        let (state, steps) = (read_state(&rules, saved).unwrap(), read_steps(steps).unwrap());
-        let (_, state) = outside::plain::gate::run(&rules, state, &steps, &mut |_, _, _| {});
+        let state = read_state(&list.rules, saved).unwrap();
+        let steps = read_steps(steps).unwrap();
+        let (_, state) = outside::plain::gate::run(&list, state, &steps, &mut |_, _, _| {});
         String::from_utf8(write_state(&state)).unwrap()
     };
     assert_eq!(

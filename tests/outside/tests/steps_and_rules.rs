@@ -249,10 +249,10 @@ fn hands_on_one_object() {
 /// Roles that need each other stay together: the largest part is not empty.
 #[test]
 fn a_circle_of_needs_stays() {
-    let rules = read_rules(
+    let list = read_rules(
         b"(rule 1 (needs 1 2))\n(rule 2 (needs 2 1))\n(rule 3 (needs 4 5))\n(rule 4 (needs 3 4))\n",
-    )
-    .unwrap();
+    );
+    let rules = list.unwrap().rules;
     let saved = b"(now 0)\n(assigned 0 1)\n(assigned 0 2)\n(assigned 0 3)\n(assigned 0 4)\n\
         (open 0 0)\n(active 0 1)\n(active 0 2)\n(active 0 3)\n(active 0 4)\n";
     let target = read_state(&[], saved).unwrap();
@@ -265,7 +265,7 @@ fn a_circle_of_needs_stays() {
 /// In a state that breaks a rule there may be no part that contains the others.
 #[test]
 fn two_good_parts_of_which_none_contains_the_other() {
-    let rules = read_rules(b"(rule 1 (max-active 1))\n").unwrap();
+    let rules = read_rules(b"(rule 1 (max-active 1))\n").unwrap().rules;
     let saved =
         b"(now 0)\n(assigned 0 1)\n(assigned 0 2)\n(open 0 0)\n(active 0 1)\n(active 0 2)\n";
     let target = read_state(&[], saved).unwrap();

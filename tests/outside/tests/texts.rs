@@ -1,7 +1,9 @@
 //! What is refused in each text, and what is written.
 
 use outside::plain::form::Bad;
+use outside::plain::rights::RightKind;
 use outside::plain::rule_text::{read_rules, write_rules};
+use outside::plain::rules::RuleList;
 use outside::plain::state_text::{read_state, write_state};
 use outside::plain::step_text::{read_steps, write_steps};
 
@@ -129,7 +131,7 @@ fn rules_are_numbered_by_ones() {
     assert_eq!(after("(rule 0 (max-roles 1))\n"), Bad { number: 11, place: 2 });
     assert_eq!(after("(rule 2 (max-roles 1))"), Bad { number: 10, place: 2 });
     assert_eq!(after("\n"), Bad { number: 10, place: 2 });
-    assert_eq!(read_rules(b""), Ok(Vec::new()));
+    assert_eq!(read_rules(b""), Ok(RuleList::default()));
 }
 
 #[test]
@@ -137,6 +139,127 @@ fn the_129th_rule_is_outside_the_range() {
     let lines = (1..=129).map(|number| format!("(rule {number} (max-roles 1))\n"));
     let text: String = lines.collect();
     assert_eq!(read_rules(text.as_bytes()), Err(Bad { number: 11, place: 129 }));
+}
+
+/// The refusal of the second line after a good first one, or 0.
+fn second_line(first: &str, second: &str) -> u64 {
+    match read_rules(format!("{first}\n{second}\n").as_bytes()) {
+        Ok(_) => 0,
+        Err(Bad { number, place }) => {
+            assert_eq!(place, 2, "{first} {second}");
+            number
+        }
+    }
+}
+
+/// 2026-05: "Before the rules a list may have `(right assign 30)`, one line a kind in that order"
+#[test]
+fn right_lines_that_are_read() {
+    let all = "(right assign 31)\n(right withdraw 0)\n(right grant 5)\n(right take 5)\n\
+        (right lend 30)\n(right recall 30)\n";
+    for text in [
+        "(right recall 0)\n".to_string(),
+        "(right assign 30)\n(rule 1 (max-roles 1))\n".to_string(),
+        "(right withdraw 3)\n(right lend 3)\n(rule 1 (max-roles 1))\n".to_string(),
+        all.to_string(),
+        format!("{all}(rule 1 (max-roles 1))\n(rule 2 (needs 1 2))\n"),
+    ] {
+        let list = read_rules(text.as_bytes()).unwrap();
+        assert_eq!(String::from_utf8(write_rules(&list)).unwrap(), text);
+    }
+    let list = read_rules(all.as_bytes()).unwrap();
+    assert_eq!(Vec::from_iter(list.rights.values().copied()), [31, 0, 5, 5, 30, 30]);
+    assert_eq!(list.rules, []);
+}
+
+/// "`(right clock 3)` is 10: a right line has one of the six kinds."
+#[test]
+fn right_lines_that_are_no_form() {
+    for text in [
+        "(right clock 3)",
+        "(right open 3)",
+        "(right by 3)",
+        "(right Assign 3)",
+        "(right assigned 3)",
+        "(right assign)",
+        "(right 3)",
+        "(right assign 3 3)",
+        "(right assign 03)",
+        "(right assign 00)",
+        "(right assign -3)",
+        "(right assign 12345678901)",
+        "(right assign  3)",
+        "(right assign 3 )",
+        "(right assign (3))",
+        "(right (assign 3))",
+        "(right 1 (assign 3))",
+        "(rights assign 3)",
+        "right assign 3",
+        "(right assign 3",
+        " (right assign 3)",
+    ] {
+        let refusal = read_rules(format!("{text}\n").as_bytes());
+        assert_eq!(refusal, Err(Bad { number: 10, place: 1 }), "{text}");
+    }
+    assert_eq!(read_rules(b"(right assign 3)"), Err(Bad { number: 10, place: 1 }));
+    assert_eq!(second_line("(rule 1 (max-roles 1))", "(right clock 32)"), 10);
+}
+
+#[test]
+fn right_lines_with_a_permission_outside_its_range() {
+    for permission in ["32", "33", "4294967296", "9999999999"] {
+        for kind in RightKind::ALL {
+            let line = format!("(right {} {permission})\n", kind.name());
+            assert_eq!(read_rules(line.as_bytes()), Err(Bad { number: 11, place: 1 }));
+        }
+    }
+    assert_eq!(second_line("(right assign 3)", "(right assign 32)"), 11);
+    assert_eq!(second_line("(right grant 3)", "(right assign 32)"), 11);
+    assert_eq!(second_line("(rule 1 (max-roles 1))", "(right assign 32)"), 11);
+}
+
+/// "A right line that is second of its kind, out of order or after a rule is 12."
+#[test]
+fn right_lines_that_are_not_the_next() {
+    for (place, kind) in RightKind::ALL.into_iter().enumerate() {
+        let line = format!("(right {} 3)", kind.name());
+        for (other_place, other) in RightKind::ALL.into_iter().enumerate() {
+            let expected = if other_place > place { 0 } else { 12 };
+            for permission in [3, 4] {
+                let second = format!("(right {} {permission})", other.name());
+                assert_eq!(second_line(&line, &second), expected, "{line} {second}");
+            }
+        }
+        assert_eq!(second_line("(rule 1 (max-roles 1))", &line), 12, "{line}");
+        assert_eq!(second_line(&line, "(rule 1 (max-roles 1))"), 0, "{line}");
+    }
+}
+
+/// "`(right ..)` lines count as lines, and rules are still numbered from 1."
+#[test]
+fn rules_are_numbered_from_1_after_right_lines() {
+    let after = |line: &str| {
+        let text = format!("(right assign 3)\n(right take 3)\n{line}");
+        read_rules(text.as_bytes()).unwrap_err()
+    };
+    assert_eq!(after("(rule 3 (max-roles 1))\n"), Bad { number: 12, place: 3 });
+    assert_eq!(after("(rule 1 (apart 1 1))\n"), Bad { number: 13, place: 3 });
+    let first = "(rule 1 (max-roles 1))\n";
+    assert_eq!(after(&format!("{first}(rule 3 (max-roles 1))\n")), Bad { number: 12, place: 4 });
+    assert_eq!(after(&format!("{first}(right recall 3)\n")), Bad { number: 12, place: 4 });
+}
+
+/// 128 rules and six right lines are 134 lines.
+#[test]
+fn the_longest_rule_list() {
+    let rights = RightKind::ALL.map(|kind| format!("(right {} 31)\n", kind.name())).concat();
+    let rule = "(at 31 (outside (box -1000000 -1000000 -1000000 -1000000)))";
+    let rules = |length| (1..=length).map(|number| format!("(rule {number} {rule})\n"));
+    let text = |length| rights.clone() + &rules(length).collect::<String>();
+    let list = read_rules(text(128).as_bytes()).unwrap();
+    assert_eq!((list.rights.len(), list.rules.len()), (6, 128));
+    assert_eq!(text(128).len(), 8980 + 105);
+    assert_eq!(read_rules(text(129).as_bytes()), Err(Bad { number: 11, place: 135 }));
 }
 
 #[test]
@@ -222,7 +345,7 @@ fn saved_places_of_one_session_with_another_error() {
 fn a_saved_position_that_is_unsure_breaks_either_side() {
     let rules = b"(rule 1 (at 3 (inside (circle 0 0 10))))\n\
         (rule 2 (at 4 (outside (circle 0 0 10))))\n";
-    let rules = read_rules(rules).unwrap();
+    let rules = read_rules(rules).unwrap().rules;
     let read = |place: &str, role: u64| {
         let text = format!(
             "(now 0)\n(assigned 0 3)\n(assigned 0 4)\n(open 0 0)\n(place {place})\n\
@@ -292,7 +415,7 @@ fn a_thirty_third_saved_loan() {
     ] {
         assert_eq!(saved(&(saved_loans(32) + line)), (number, 35), "{line}");
     }
-    let rules = read_rules(b"(rule 1 (max-users 0 1))\n").unwrap();
+    let rules = read_rules(b"(rule 1 (max-users 0 1))\n").unwrap().rules;
     let refusal = |number| read_state(&rules, saved_loans(number).as_bytes()).unwrap_err();
     assert_eq!(refusal(32), Bad { number: 17, place: 1 });
     assert_eq!(refusal(33), Bad { number: 51, place: 35 });
@@ -301,7 +424,7 @@ fn a_thirty_third_saved_loan() {
 #[test]
 fn a_saved_state_that_breaks_rules() {
     let rules = b"(rule 1 (max-roles 2))\n(rule 2 (max-users 1 0))\n(rule 3 (max-roles 0))\n";
-    let rules = read_rules(rules).unwrap();
+    let rules = read_rules(rules).unwrap().rules;
     let state = read_state(&rules, b"(now 0)\n(assigned 0 1)\n");
     assert_eq!(state, Err(Bad { number: 17, place: 2 }));
 }
@@ -345,4 +468,72 @@ fn steps_have_no_ranges_in_their_text() {
     ] {
         assert_eq!(read_steps(text.as_bytes()), Err(Bad { number: 10, place: 1 }), "{text}");
     }
+}
+
+/// 2026-05: "Steps are written `(by 4 (assign 5 2))`"
+#[test]
+fn steps_with_an_acting_session() {
+    for step in [
+        "(assign 5 2)",
+        "(withdraw 5 2)",
+        "(grant 2 3)",
+        "(take 2 3)",
+        "(lend 5 6 2 100)",
+        "(recall 5 6 2)",
+        "(assign 9999999999 32)",
+    ] {
+        assert!(steps_are_read(&format!("(by 4 {step})\n(by 0 {step})\n(by 31 {step})\n")));
+        assert!(steps_are_read(&format!("(by 32 {step})\n(by 9999999999 {step})\n")));
+    }
+}
+
+/// "`by` before any other step, or before another `by`, is 10 in a text"
+#[test]
+fn steps_with_by_that_are_no_form() {
+    for text in [
+        "(by 4 (open 0 5))",
+        "(by 4 (activate 0 5))",
+        "(by 4 (deactivate 0 5))",
+        "(by 4 (access 0 1 2))",
+        "(by 4 (finish 0))",
+        "(by 4 (close 4))",
+        "(by 4 (move 4 1 2))",
+        "(by 4 (move 4 1 2 3))",
+        "(by 4 (lost 4))",
+        "(by 4 (clock 5))",
+        "(by 4 (by 4 (assign 5 2)))",
+        "(by 4 (by 5 (assign 5 2)))",
+        "(by 32 (clock 5))",
+        "(by 4 (right assign 5))",
+        "(by 4)",
+        "(by 4 ())",
+        "(by)",
+        "(by (assign 5 2))",
+        "(by (assign 5 2) 4)",
+        "(by 4 assign 5 2)",
+        "(by 4 (assign 5))",
+        "(by 4 (assign 5 2 3))",
+        "(by 4 (assign 05 2))",
+        "(by 4 (assign -5 2))",
+        "(by 4 (move 4 -0 2))",
+        "(by 04 (assign 5 2))",
+        "(by 00 (assign 5 2))",
+        "(by -4 (assign 5 2))",
+        "(by +4 (assign 5 2))",
+        "(by 12345678901 (assign 5 2))",
+        "(by 4 5 (assign 5 2))",
+        "(by 4 (assign 5 2) (assign 6 2))",
+        "(by 4 (assign 5 2)",
+        "(by 4 (assign 5 2)))",
+        "(by 4  (assign 5 2))",
+        "(by 4(assign 5 2))",
+        "(by 4 (assign 5 2) )",
+        "(By 4 (assign 5 2))",
+        "(4 (assign 5 2))",
+        "by 4 (assign 5 2)",
+    ] {
+        let refusal = read_steps(format!("{text}\n").as_bytes());
+        assert_eq!(refusal, Err(Bad { number: 10, place: 1 }), "{text}");
+    }
+    assert_eq!(read_steps(b"(by 4 (assign 5 2))"), Err(Bad { number: 10, place: 1 }));
 }

@@ -2,6 +2,7 @@
 
 use super::loans::compare_loans;
 use super::places::{compare_saved_reports, compare_written_errors, error_sweeps};
+use super::rights::compare_rights;
 use super::sweeps::{calendar_sweep, place_sweep, Sweep};
 use super::vectors::compare_vectors;
 use super::{input, STEPS_LINE};
@@ -26,6 +27,7 @@ pub fn compare_always(comparison: &mut Comparison) -> Compared {
     compare_long_steps(comparison)?;
     compare_fullest_state(comparison)?;
     compare_loans(comparison)?;
+    compare_rights(comparison)?;
     compare_sweep(comparison, calendar_sweep())?;
     compare_sweep(comparison, place_sweep())?;
     compare_written_errors(comparison)?;
@@ -126,7 +128,13 @@ fn compare_fullest_state(comparison: &mut Comparison) -> Compared {
         (recall 63 62 9)\n(lend 61 62 9 3155759999)\n\
         (lend 60 62 8 3155759999)\n(clock 3155759999)\n(open 31 62)\n(activate 31 31)\n";
     comparison.run_steps(kept, &state, b"")?;
-    comparison.run_steps(kept, &state, steps)
+    comparison.run_steps(kept, &state, steps)?;
+    let rights = b"(right assign 31)\n(right withdraw 31)\n(right grant 31)\n(right take 31)\n\
+        (right lend 31)\n(right recall 31)\n";
+    let acting = b"(recall 63 62 9)\n(by 31 (recall 63 62 9))\n(by 30 (take 31 31))\n\
+        (by 29 (lend 61 62 9 3155759999))\n(by 28 (grant 31 31))\n(by 27 (withdraw 0 2))\n\
+        (close 31)\n(by 31 (recall 63 62 8))\n(by 0 (assign 62 8))\n";
+    comparison.run_steps(&[&rights[..], kept].concat(), &state, acting)
 }
 
 fn compare_sweep(comparison: &mut Comparison, sweep: Sweep) -> Compared {

@@ -3,6 +3,8 @@
 pub mod always;
 mod loans;
 mod places;
+mod rights;
+mod safety;
 mod seeded;
 mod sweeps;
 mod vectors;

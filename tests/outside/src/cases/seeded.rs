@@ -1,10 +1,12 @@
 //! A world, rules, a state and steps, all drawn from one seed; then their texts damaged.
 
 use super::input;
+use super::safety::compare_own_steps;
 use crate::compare::{Compared, Comparison};
 use crate::generate::damage::DAMAGES;
 use crate::generate::loans::with_too_many_loans;
 use crate::generate::random::Random;
+use crate::generate::rights::put_in_charge;
 use crate::generate::rule_lists::rule_list;
 use crate::generate::states::{drawn_state, grown_state};
 use crate::generate::step_lists::step_list;
@@ -26,7 +28,7 @@ pub fn compare_seed(comparison: &mut Comparison, seed: u64) -> Compared {
     for _ in 0..rounds {
         texts.compare_damaged(comparison, &mut random)?;
     }
-    Ok(())
+    compare_own_steps(comparison, &mut random)
 }
 
 struct Texts {
@@ -45,17 +47,20 @@ struct Texts {
 impl Texts {
     fn new(random: &mut Random) -> Texts {
         let world = World::new(random);
-        let mut rules = rule_list(random, &world);
-        let start = match random.below(10) {
+        let mut list = rule_list(random, &world);
+        let mut start = match random.below(10) {
             0..=3 => State::fresh(),
-            4..=5 => grown_state(random, &world, &rules),
+            4..=5 => grown_state(random, &world, &list.rules),
             _ => drawn_state(random, &world),
         };
-        rules.retain(|rule| rule.holds(&start));
+        if !list.rights.is_empty() && random.percent(80) {
+            put_in_charge(random, &world, &list.rights, &mut start);
+        }
+        list.rules.retain(|rule| rule.holds(&start));
         let length = length(random, &start);
-        let (steps, end) = step_list(random, &world, &rules, &start, length);
+        let (steps, end) = step_list(random, &world, &list, &start, length);
         Texts {
-            rules: write_rules(&rules),
+            rules: write_rules(&list),
             other_rules: write_rules(&rule_list(random, &world)),
             start: write_state(&start),
             steps: write_steps(&steps),

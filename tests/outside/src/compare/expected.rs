@@ -5,7 +5,7 @@ use crate::plain::form::Bad;
 use crate::plain::gate::{self, Watch};
 use crate::plain::ranges::LONGEST_INPUT;
 use crate::plain::rule_text::read_rules;
-use crate::plain::rules::Rule;
+use crate::plain::rules::RuleList;
 use crate::plain::state::State;
 use crate::plain::state_text::{read_state, write_state};
 use crate::plain::step_text::{read_steps, write_answers};
@@ -26,14 +26,14 @@ pub struct Run {
     pub state: Vec<u8>,
 }
 
-pub fn accepted_rules(rules: &[u8]) -> Result<Vec<Rule>, Refused> {
+pub fn accepted_rules(rules: &[u8]) -> Result<RuleList, Refused> {
     read_rules(rules).map_err(|bad| about(Text::Rules, bad))
 }
 
-pub fn accepted_state(rules: &[u8], state: &[u8]) -> Result<(Vec<Rule>, State), Refused> {
-    let rules = accepted_rules(rules)?;
-    let state = read_state(&rules, state).map_err(|bad| about(Text::State, bad))?;
-    Ok((rules, state))
+pub fn accepted_state(rules: &[u8], state: &[u8]) -> Result<(RuleList, State), Refused> {
+    let list = accepted_rules(rules)?;
+    let state = read_state(&list.rules, state).map_err(|bad| about(Text::State, bad))?;
+    Ok((list, state))
 }
 
 /// Steps have the program's limit: 19 "comes before all else".
@@ -46,9 +46,9 @@ pub fn expected_run(
     if steps.len() > LONGEST_INPUT {
         return Err(Refused { number: 19, text: Text::Steps, place: 0 });
     }
-    let (rules, state) = accepted_state(rules, state)?;
+    let (list, state) = accepted_state(rules, state)?;
     let steps = read_steps(steps).map_err(|bad| about(Text::Steps, bad))?;
-    let (answers, state) = gate::run(&rules, state, &steps, watch);
+    let (answers, state) = gate::run(&list, state, &steps, watch);
     Ok(Run { answers: write_answers(&answers), state: write_state(&state) })
 }
 

@@ -8,7 +8,7 @@ use crate::generate::random::Random;
 use crate::plain::form::Bad;
 use crate::plain::gate;
 use crate::plain::program;
-use crate::plain::rules::Rule;
+use crate::plain::rules::{Rule, RuleList};
 use crate::plain::state::State;
 use crate::plain::state_text::{read_state, write_state};
 use crate::plain::step_text::{read_steps, write_answers};
@@ -27,7 +27,7 @@ pub struct Difference {
 
 pub type Compared = Result<(), Box<Difference>>;
 
-type Read = Result<(Vec<Rule>, State), Refused>;
+type Read = Result<(RuleList, State), Refused>;
 
 pub struct Comparison {
     pub counts: Counts,
@@ -42,18 +42,26 @@ impl Comparison {
 
     pub fn respond(&mut self, input: &[u8]) -> Compared {
         match program::read_input(input) {
-            Ok(_) => self.counts.accepted("respond"),
+            Ok((list, _)) => {
+                self.counts.accepted("respond");
+                self.counts.list_read(&list);
+            }
             Err(Bad { number, place }) => {
                 self.counts.refused("respond", INPUT, number);
-                self.counts.refused_line(line_of(input, place), number);
+                self.note_line(input, place, number);
             }
         }
         let counts = &mut self.counts;
-        let output = program::respond(input, &mut |rules, step, outcome| {
-            counts.step(rules, step, outcome);
+        let output = program::respond(input, &mut |list, step, outcome| {
+            counts.step(list, step, outcome);
         });
         let found = told(pitch_gate::respond(input));
-        self.same("respond", &[input], &Ok(Shown(&output)), &found.as_deref().map(Shown).map_err(|refusal| *refusal))?;
+        self.same(
+            "respond",
+            &[input],
+            &Ok(Shown(&output)),
+            &found.as_deref().map(Shown).map_err(|refusal| *refusal),
+        )?;
         for room in rooms(output.len()) {
             let mut space = self.space(room);
             let expected = no_room(room, output.len(), Text::OutputSpace);
@@ -67,7 +75,9 @@ impl Comparison {
 
     /// Both calls that read a rule list alone: an accepted one comes back byte for byte.
     pub fn check_rules(&mut self, rules: &[u8]) -> Compared {
-        let checked = expected::accepted_rules(rules).map(drop);
+        let read = expected::accepted_rules(rules);
+        self.note_list(rules, &read);
+        let checked = read.map(drop);
         self.note("check_rules", &[], checked.err());
         self.same("check_rules", &[rules], &checked, &told(pitch_gate::check_rules(rules)))?;
         for room in rooms(rules.len()) {
@@ -84,7 +94,7 @@ impl Comparison {
     /// Both calls that read a saved state and run no step.
     pub fn check_state(&mut self, rules: &[u8], state: &[u8]) -> Compared {
         let texts = [rules, state];
-        let list = expected::accepted_rules(rules).unwrap_or_default();
+        let list = expected::accepted_rules(rules).unwrap_or_default().rules;
         let read = accepted_state(rules, state);
         let checked = read.as_ref().map(drop).map_err(|refusal| *refusal);
         self.note("check_state", &list, checked.err());
@@ -105,7 +115,12 @@ impl Comparison {
     pub fn fresh_state(&mut self) -> Compared {
         let fresh = b"(now 0)\n";
         let found = told(pitch_gate::fresh_state());
-        self.same("fresh_state", &[], &Ok(Shown(fresh)), &found.as_deref().map(Shown).map_err(|refusal| *refusal))?;
+        self.same(
+            "fresh_state",
+            &[],
+            &Ok(Shown(fresh)),
+            &found.as_deref().map(Shown).map_err(|refusal| *refusal),
+        )?;
         for room in rooms(fresh.len()) {
             let mut space = self.space(room);
             let expected = no_room(room, fresh.len(), Text::StateSpace);
@@ -120,13 +135,13 @@ impl Comparison {
     pub fn run_steps(&mut self, rules: &[u8], state: &[u8], steps: &[u8]) -> Compared {
         let texts = [rules, state, steps];
         let counts = &mut self.counts;
-        let expected = expected_run(rules, state, steps, &mut |rules, step, outcome| {
-            counts.step(rules, step, outcome);
+        let expected = expected_run(rules, state, steps, &mut |list, step, outcome| {
+            counts.step(list, step, outcome);
         });
         let refusal = expected.as_ref().err().copied();
-        self.note("run_steps", &expected::accepted_rules(rules).unwrap_or_default(), refusal);
+        self.note("run_steps", &expected::accepted_rules(rules).unwrap_or_default().rules, refusal);
         if let Some(Refused { number, text: Text::Steps, place }) = refusal {
-            self.counts.refused_line(line_of(steps, place), number);
+            self.note_line(steps, place, number);
         }
         let found = told(pitch_gate::run_steps(rules, state, steps).map(Run::from));
         self.same("run_steps", &texts, &expected, &found)?;
@@ -160,8 +175,9 @@ impl Comparison {
         self.note_refusal("run_steps", &[], expected.err().filter(|refusal| refusal.number == 18));
         let [rules, state, steps] = texts;
         let (answers_bytes, next_bytes) = (&mut answers.bytes, &mut next.bytes);
-        let found = told(pitch_gate::run_steps_into(rules, state, steps, answers_bytes, next_bytes))
-            .map(|lengths| (lengths.answers, lengths.state));
+        let found =
+            told(pitch_gate::run_steps_into(rules, state, steps, answers_bytes, next_bytes))
+                .map(|lengths| (lengths.answers, lengths.state));
         self.same("run_steps_into", &texts, &expected, &found)?;
         let nothing = Run::default();
         let run = run.as_ref().unwrap_or(&nothing);
@@ -178,8 +194,8 @@ impl Comparison {
         for piece in pieces {
             let steps = read_steps(piece).expect("a piece is whole lines");
             let counts = &mut self.counts;
-            let (answers, next) = gate::run(&list, state, &steps, &mut |rules, step, outcome| {
-                counts.step(rules, step, outcome);
+            let (answers, next) = gate::run(&list, state, &steps, &mut |list, step, outcome| {
+                counts.step(list, step, outcome);
             });
             let run = Run { answers: write_answers(&answers), state: write_state(&next) };
             let texts: [&[u8]; 3] = [rules, &handed_over, piece];
@@ -204,6 +220,18 @@ impl Comparison {
         }
     }
 
+    fn note_list(&mut self, text: &[u8], read: &Result<RuleList, Refused>) {
+        match read {
+            Ok(list) => self.counts.list_read(list),
+            Err(Refused { number, place, .. }) => self.note_line(text, *place, *number),
+        }
+    }
+
+    fn note_line(&mut self, text: &[u8], place: u64, number: u64) {
+        let (before, line) = parted(text, place);
+        self.counts.refused_line(before, line, number);
+    }
+
     /// What a saved state shows besides its refusal.
     fn note_state(&mut self, rules: &[Rule], text: &[u8], read: &Read) {
         match *read {
@@ -213,7 +241,7 @@ impl Comparison {
                 self.counts.state_broken(&rules[place as usize - 1], state);
             }
             Err(Refused { number, text: Text::State, place }) => {
-                self.counts.refused_line(line_of(text, place), number);
+                self.note_line(text, place, number);
             }
             Err(_) => {}
         }
@@ -265,10 +293,13 @@ fn told<Value>(result: Result<Value, Refusal>) -> Result<Value, Refused> {
     result.map_err(Refused::from)
 }
 
-/// A line of the text by its number, without its line feed; 0 is none.
-fn line_of(text: &[u8], place: u64) -> &[u8] {
-    let mut lines = text.split(|&byte| byte == b'\n');
-    place.checked_sub(1).and_then(|before| lines.nth(before as usize)).unwrap_or_default()
+/// What stands before a line of the text, and the line without its line feed; line 0 is none.
+fn parted(text: &[u8], place: u64) -> (&[u8], &[u8]) {
+    let Some(before) = place.checked_sub(1) else { return (b"", b"") };
+    let mut lines = text.split_inclusive(|&byte| byte == b'\n');
+    let start: usize = lines.by_ref().take(before as usize).map(<[u8]>::len).sum();
+    let line = lines.next().unwrap_or_default();
+    (&text[..start], line.strip_suffix(b"\n").unwrap_or(line))
 }
 
 /// As long as the text, longer, and one byte too short.

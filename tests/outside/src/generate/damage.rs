@@ -3,11 +3,15 @@
 use super::loan_damage::{loan_added, loan_changed};
 use super::place_damage::{error_dropped, error_written, place_repeated};
 use super::random::Random;
+use super::right_damage::{
+    acting_added, acting_changed, acting_dropped, right_added, right_changed, right_moved,
+    right_repeated,
+};
 use std::ops::Range;
 
 type Damage = fn(&mut Random, &[u8]) -> Vec<u8>;
 
-pub const DAMAGES: [(&str, Damage); 31] = [
+pub const DAMAGES: [(&str, Damage); 38] = [
     ("bit flipped", bit_flipped),
     ("byte replaced", byte_replaced),
     ("byte inserted", byte_inserted),
@@ -39,6 +43,13 @@ pub const DAMAGES: [(&str, Damage); 31] = [
     ("error of a place written", error_written),
     ("error of a place dropped", error_dropped),
     ("place repeated", place_repeated),
+    ("right line added", right_added),
+    ("right line repeated", right_repeated),
+    ("right line moved", right_moved),
+    ("right line changed", right_changed),
+    ("by added", acting_added),
+    ("by changed", acting_changed),
+    ("by dropped", acting_dropped),
 ];
 
 /// Values at and just past the ends of the ranges.
@@ -85,7 +96,7 @@ pub const EDGE_VALUES: [u64; 40] = [
     9_999_999_999,
 ];
 
-const WORDS: [&str; 42] = [
+const WORDS: [&str; 45] = [
     "rule",
     "before",
     "max-users",
@@ -128,6 +139,9 @@ const WORDS: [&str; 42] = [
     "loan",
     "lend",
     "recall",
+    "withdraw",
+    "right",
+    "by",
 ];
 
 /// The runs of bytes that the test accepts.
@@ -145,6 +159,11 @@ pub fn runs(text: &[u8], belongs: impl Fn(u8) -> bool) -> Vec<Range<usize>> {
 
 pub fn numbers(text: &[u8]) -> Vec<Range<usize>> {
     runs(text, |byte| byte.is_ascii_digit())
+}
+
+pub fn lines_that_start(text: &[u8], start: &[u8]) -> Vec<Range<usize>> {
+    let lines = runs(text, |byte| byte != b'\n');
+    lines.into_iter().filter(|line| text[line.clone()].starts_with(start)).collect()
 }
 
 pub fn replaced(text: &[u8], range: Range<usize>, with: &[u8]) -> Vec<u8> {

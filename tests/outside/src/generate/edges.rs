@@ -2,7 +2,7 @@
 
 use super::damage::{numbers, replaced, EDGE_VALUES};
 
-pub const RULE_LINES: [&str; 21] = [
+pub const RULE_LINES: [&str; 27] = [
     "(rule 1 (before 3 4))\n",
     "(rule 1 (max-users 3 4))\n",
     "(rule 1 (max-roles 3))\n",
@@ -24,6 +24,12 @@ pub const RULE_LINES: [&str; 21] = [
     "(rule 1 (at 3 (inside (box -10 -20 30 40))))\n",
     "(rule 1 (two-hands 3 4))\n",
     "(rule 1 (same-hand 3 4))\n",
+    "(right assign 3)\n",
+    "(right withdraw 4)\n",
+    "(right grant 5)\n",
+    "(right take 6)\n",
+    "(right lend 7)\n",
+    "(right recall 8)\n",
 ];
 
 /// All the forms of a saved state, and those that it may leave out.
@@ -32,7 +38,7 @@ pub const SAVED_TEXT: &str =
     (loan 2 6 3 7)\n(loan 6 7 4 100)\n(open 1 2)\n(place 1 10 -20)\n(active 1 3)\n(open 9 6)\n\
     (place 9 -10 20 30)\n(active 9 3)\n(active 9 4)\n(did 5 7 2)\n(did 5 8 2)\n";
 
-pub const STEP_LINES: [&str; 20] = [
+pub const STEP_LINES: [&str; 27] = [
     "(assign 1 2)\n",
     "(withdraw 1 2)\n",
     "(grant 1 2)\n",
@@ -53,6 +59,13 @@ pub const STEP_LINES: [&str; 20] = [
     "(lend 2 7 3 100)\n",
     "(recall 1 2 3)\n",
     "(recall 2 6 3)\n",
+    "(by 1 (assign 1 2))\n",
+    "(by 9 (withdraw 1 2))\n",
+    "(by 1 (grant 1 2))\n",
+    "(by 9 (take 4 8))\n",
+    "(by 1 (lend 2 7 3 100))\n",
+    "(by 9 (recall 2 6 3))\n",
+    "(by 2 (recall 1 2 3))\n",
 ];
 
 /// The text with each of its numbers set to each value in turn.

@@ -1,8 +1,7 @@
 //! Damaged loans of a saved state.
 
-use super::damage::{at_any_number, numbers, replaced, runs};
+use super::damage::{at_any_number, lines_that_start, numbers, replaced, runs};
 use super::random::Random;
-use std::ops::Range;
 
 /// A number of a saved loan becomes another of the lines that loans stand on, or one beside it.
 pub fn loan_changed(random: &mut Random, text: &[u8]) -> Vec<u8> {
@@ -68,11 +67,6 @@ fn number_of_a_loan(random: &mut Random, text: &[u8]) -> u64 {
         1 => value,
         _ => value + 1,
     }
-}
-
-fn lines_that_start(text: &[u8], start: &[u8]) -> Vec<Range<usize>> {
-    let lines = runs(text, |byte| byte != b'\n');
-    lines.into_iter().filter(|line| text[line.clone()].starts_with(start)).collect()
 }
 
 fn values(line: &[u8]) -> Vec<u64> {

@@ -1,11 +1,12 @@
-//! Accepted rule lists of every family, 0 to 128 rules.
+//! Accepted rule lists of every family, 0 to 128 rules, with and without right lines.
 
 use super::random::Random;
+use super::rights::some_rights;
 use super::world::World;
 use crate::plain::calendar::{minute_of_day, weekday, Date, Term, SECONDS_OF_DAY};
 use crate::plain::places::{Position, Shape, Side};
 use crate::plain::ranges::{METRES, RADII, TIMES};
-use crate::plain::rules::Rule;
+use crate::plain::rules::{Rule, RuleList};
 
 const FAMILIES: usize = 12;
 const NEEDS: usize = 7;
@@ -14,7 +15,12 @@ const AT: usize = 9;
 const LAST_DAY: i64 = 36_524;
 const MINUTES_OF_DAY: i64 = 1440;
 
-pub fn rule_list(random: &mut Random, world: &World) -> Vec<Rule> {
+pub fn rule_list(random: &mut Random, world: &World) -> RuleList {
+    let rules = some_rules(random, world);
+    RuleList { rights: some_rights(random, world), rules }
+}
+
+pub fn some_rules(random: &mut Random, world: &World) -> Vec<Rule> {
     if random.percent(30) {
         chain(random, world)
     } else {

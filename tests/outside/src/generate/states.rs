@@ -7,13 +7,16 @@ use super::step_lists;
 use super::world::World;
 use crate::plain::places::{Position, Reported};
 use crate::plain::ranges::{ERRORS, METRES, OBJECTS, PERMISSIONS, ROLES, SESSIONS, TIMES, USERS};
-use crate::plain::rules::Rule;
+use crate::plain::rights::Rights;
+use crate::plain::rules::{Rule, RuleList};
 use crate::plain::state::{Session, State};
 
-/// The state after some steps from a fresh one.
+/// The state after some steps from a fresh one, without rights: under them nothing can be
+/// assigned in a fresh state.
 pub fn grown_state(random: &mut Random, world: &World, rules: &[Rule]) -> State {
     let length = 20 + random.below(80);
-    step_lists::step_list(random, world, rules, &State::fresh(), length).1
+    let list = RuleList { rights: Rights::new(), rules: rules.to_vec() };
+    step_lists::step_list(random, world, &list, &State::fresh(), length).1
 }
 
 /// Each line that could be there is there with the same chance, but for the loans.

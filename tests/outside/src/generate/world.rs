@@ -25,7 +25,7 @@ impl World {
     }
 
     /// Few of each, so that rules bite.
-    fn dense(random: &mut Random) -> World {
+    pub fn dense(random: &mut Random) -> World {
         World {
             users: few(random, USERS),
             roles: few(random, ROLES),

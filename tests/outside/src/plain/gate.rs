@@ -1,7 +1,7 @@
 //! "The plain gate": one step, and a list of steps.
 
 use super::largest::{largest_part, Ending};
-use super::rules::{broken_rules, Rule};
+use super::rules::{broken_rules, RuleList};
 use super::selected::number_selected;
 use super::state::State;
 use super::steps::Step;
@@ -23,10 +23,10 @@ pub struct Outcome {
 }
 
 /// Told of each step with its outcome.
-pub type Watch<'watch> = dyn FnMut(&[Rule], &Step, &Outcome) + 'watch;
+pub type Watch<'watch> = dyn FnMut(&RuleList, &Step, &Outcome) + 'watch;
 
 pub fn run(
-    rules: &[Rule],
+    list: &RuleList,
     state: State,
     steps: &[Step],
     watch: &mut Watch,
@@ -34,21 +34,22 @@ pub fn run(
     let mut state = state;
     let mut answers = Vec::new();
     for step in steps {
-        let outcome = decide(rules, &state, step);
-        watch(rules, step, &outcome);
+        let outcome = decide(list, &state, step);
+        watch(list, step, &outcome);
         answers.push(outcome.answer);
         state = outcome.state;
     }
     (answers, state)
 }
 
-pub fn decide(rules: &[Rule], state: &State, step: &Step) -> Outcome {
-    if let Some(number) = step.refusal(state) {
+pub fn decide(list: &RuleList, state: &State, step: &Step) -> Outcome {
+    if let Some(number) = step.refusal(&list.rights, state) {
         return refuse(state, Answer::No { number, rule: 0, selected: 0 }, 0);
     }
-    let selected = number_selected(rules, step);
-    let target = step.target(state);
-    if step.is_event() {
+    let (rules, action) = (&list.rules, &step.action);
+    let selected = number_selected(rules, action);
+    let target = action.target(state);
+    if action.is_event() {
         let closed = state.active.difference(&target.active).count();
         let loans = state.loans.len() - target.loans.len();
         let largest = largest_part(rules, target);

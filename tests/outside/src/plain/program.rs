@@ -3,24 +3,24 @@
 use super::form::{lines, Bad};
 use super::gate::{run, Watch};
 use super::ranges::LONGEST_INPUT;
-use super::rule_text::read_rule_line;
-use super::rules::Rule;
+use super::rule_text::add_line;
+use super::rules::RuleList;
 use super::state::State;
 use super::step_text::{read_step, write_answers};
 use super::steps::Step;
 
 pub fn respond(input: &[u8], watch: &mut Watch) -> Vec<u8> {
     match read_input(input) {
-        Ok((rules, steps)) => write_answers(&run(&rules, State::fresh(), &steps, watch).0),
+        Ok((list, steps)) => write_answers(&run(&list, State::fresh(), &steps, watch).0),
         Err(Bad { number, place }) => format!("(bad {number} {place})\n").into_bytes(),
     }
 }
 
-pub fn read_input(input: &[u8]) -> Result<(Vec<Rule>, Vec<Step>), Bad> {
+pub fn read_input(input: &[u8]) -> Result<(RuleList, Vec<Step>), Bad> {
     if input.len() > LONGEST_INPUT {
         return Err(Bad { number: 19, place: 0 });
     }
-    let mut rules = Vec::new();
+    let mut list = RuleList::default();
     let mut steps = Vec::new();
     let mut after_rules = false;
     let mut last = 0;
@@ -31,11 +31,11 @@ pub fn read_input(input: &[u8]) -> Result<(Vec<Rule>, Vec<Step>), Bad> {
         } else if line == Some(b"(steps)") {
             after_rules = true;
         } else {
-            rules.push(read_rule_line(line, place).map_err(|number| Bad { number, place })?);
+            add_line(&mut list, line).map_err(|number| Bad { number, place })?;
         }
     }
     if after_rules {
-        Ok((rules, steps))
+        Ok((list, steps))
     } else {
         Err(Bad { number: 10, place: last + 1 })
     }

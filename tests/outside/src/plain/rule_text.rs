@@ -8,44 +8,81 @@ use super::ranges::{
     INTERVALS, MONTHS, OTHER_LIMITS, PERMISSIONS, RADII, ROLES, RULE_NUMBERS, USER_LIMITS,
     WEEKDAYS, WEEKS_OF_MONTH,
 };
-use super::rules::Rule;
+use super::rights::RightKind;
+use super::rules::{Rule, RuleList};
 
-pub fn read_rules(text: &[u8]) -> Result<Vec<Rule>, Bad> {
-    let mut rules = Vec::new();
-    for line in lines(text) {
-        let place = rules.len() as u64 + 1;
-        let rule = read_rule_line(line, place).map_err(|number| Bad { number, place })?;
-        rules.push(rule);
+enum Line {
+    Right { kind: RightKind, permission: i64 },
+    Rule { number: i64, rule: Rule },
+}
+
+pub fn read_rules(text: &[u8]) -> Result<RuleList, Bad> {
+    let mut list = RuleList::default();
+    for (line, place) in lines(text).zip(1..) {
+        add_line(&mut list, line).map_err(|number| Bad { number, place })?;
     }
-    Ok(rules)
+    Ok(list)
 }
 
 /// "For each text line in order 10, 11, 12, 13, 14"
-pub fn read_rule_line(line: Option<&[u8]>, next: u64) -> Result<Rule, u64> {
+pub fn add_line(list: &mut RuleList, line: Option<&[u8]>) -> Result<(), u64> {
     let mut numbers = Numbers::default();
     let form = read_form(line).ok_or(10u64)?;
-    let (number, rule) = read_numbered(&form, &mut numbers).ok_or(10u64)?;
+    let line = read_line(&form, &mut numbers).ok_or(10u64)?;
+    if numbers.outside {
+        return Err(11);
+    }
+    match line {
+        Line::Right { kind, permission } => add_right(list, kind, permission),
+        Line::Rule { number, rule } => add_rule(list, number, rule),
+    }
+}
+
+/// 2026-05: "A right line that is second of its kind, out of order or after a rule is 12."
+fn add_right(list: &mut RuleList, kind: RightKind, permission: i64) -> Result<(), u64> {
+    let is_next = list.rights.keys().all(|&earlier| earlier < kind);
+    if !is_next || !list.rules.is_empty() {
+        return Err(12);
+    }
+    list.rights.insert(kind, permission);
+    Ok(())
+}
+
+fn add_rule(list: &mut RuleList, number: i64, rule: Rule) -> Result<(), u64> {
     let checks = [
-        (11, numbers.outside),
-        (12, number as u64 != next),
+        (12, number as usize != list.rules.len() + 1),
         (13, rule.names_one_twice()),
         (14, !rule.makes_sense()),
     ];
     match checks.iter().find(|(_, refuses)| *refuses) {
         Some(&(number, _)) => Err(number),
-        None => Ok(rule),
+        None => {
+            list.rules.push(rule);
+            Ok(())
+        }
     }
 }
 
-pub fn write_rules(rules: &[Rule]) -> Vec<u8> {
-    let numbered = rules.iter().enumerate();
-    let lines = numbered.map(|(index, rule)| format!("(rule {} {rule})\n", index + 1));
-    lines.collect::<String>().into_bytes()
+pub fn write_rules(list: &RuleList) -> Vec<u8> {
+    let rights = list.rights.iter();
+    let rights = rights.map(|(kind, permission)| format!("(right {} {permission})\n", kind.name()));
+    let rules = list.rules.iter().enumerate();
+    let rules = rules.map(|(index, rule)| format!("(rule {} {rule})\n", index + 1));
+    rights.chain(rules).collect::<String>().into_bytes()
 }
 
-fn read_numbered(form: &Form, numbers: &mut Numbers) -> Option<(i64, Rule)> {
-    let [Form::Word("rule"), number, rule] = form.list()? else { return None };
-    Some((numbers.whole(number, RULE_NUMBERS)?, read_rule(rule, numbers)?))
+fn read_line(form: &Form, numbers: &mut Numbers) -> Option<Line> {
+    match form.list()? {
+        [Form::Word("right"), kind, permission] => Some(Line::Right {
+            kind: RightKind::named(kind.word()?)?,
+            permission: numbers.whole(permission, PERMISSIONS)?,
+        }),
+        [Form::Word("rule"), number, rule] => Some(Line::Rule {
+            number: numbers.whole(number, RULE_NUMBERS)?,
+            rule: read_rule(rule, numbers)?,
+        }),
+        _ => None,
+    }
 }
 
 fn read_rule(form: &Form, numbers: &mut Numbers) -> Option<Rule> {

@@ -4,9 +4,17 @@
 use super::calendar::Term;
 use super::places::{Shape, Side};
 use super::ranges::{OBJECTS, SESSIONS, USERS};
+use super::rights::Rights;
 use super::state::State;
 use std::fmt;
 use std::ops::RangeInclusive;
+
+/// Right lines, then rules.
+#[derive(Clone, Debug, Default, PartialEq, Eq)]
+pub struct RuleList {
+    pub rights: Rights,
+    pub rules: Vec<Rule>,
+}
 
 #[derive(Clone, Debug, PartialEq, Eq)]
 pub enum Rule {

@@ -1,42 +1,42 @@
 //! The last column of the table: the rules selected by a step.
 
 use super::rules::Rule;
-use super::steps::Step;
+use super::steps::Action;
 
-pub fn number_selected(rules: &[Rule], step: &Step) -> u64 {
-    rules.iter().filter(|rule| selects(step, rule)).count() as u64
+pub fn number_selected(rules: &[Rule], action: &Action) -> u64 {
+    rules.iter().filter(|rule| selects(action, rule)).count() as u64
 }
 
-pub fn selects(step: &Step, rule: &Rule) -> bool {
-    match *step {
-        Step::Assign { role: given, .. } => {
+pub fn selects(action: &Action, rule: &Rule) -> bool {
+    match *action {
+        Action::Assign { role: given, .. } => {
             matches!(*rule, Rule::Before { role, .. } if role == given)
                 || limits_who_holds(given, rule)
         }
-        Step::Withdraw { role, .. } => {
+        Action::Withdraw { role, .. } => {
             matches!(*rule, Rule::Before { required, .. } if required == role)
         }
-        Step::Grant { role, .. } => {
+        Action::Grant { role, .. } => {
             matches!(*rule, Rule::MaxPermissions { role: named, .. } if named == role)
         }
-        Step::Take { .. } | Step::Open { .. } | Step::Finish { .. } => false,
-        Step::Activate { role, .. } => selected_by_activate(role, rule),
-        Step::Deactivate { role, .. } => {
+        Action::Take { .. } | Action::Open { .. } | Action::Finish { .. } => false,
+        Action::Activate { role, .. } => selected_by_activate(role, rule),
+        Action::Deactivate { role, .. } => {
             matches!(*rule, Rule::Needs { needed, .. } if needed == role)
         }
-        Step::Access { permission: done, .. } => match *rule {
+        Action::Access { permission: done, .. } => match *rule {
             Rule::TwoHands { permission, other } | Rule::SameHand { permission, other } => {
                 done == permission || done == other
             }
             _ => false,
         },
-        Step::Close { .. } => matches!(rule, Rule::Needs { .. }),
-        Step::Move { .. } | Step::Lost { .. } => {
+        Action::Close { .. } => matches!(rule, Rule::Needs { .. }),
+        Action::Move { .. } | Action::Lost { .. } => {
             matches!(rule, Rule::At { .. } | Rule::Needs { .. })
         }
-        Step::Clock { .. } => matches!(rule, Rule::During { .. } | Rule::Needs { .. }),
-        Step::Lend { role, .. } => limits_who_holds(role, rule),
-        Step::Recall { .. } => matches!(rule, Rule::Needs { .. }),
+        Action::Clock { .. } => matches!(rule, Rule::During { .. } | Rule::Needs { .. }),
+        Action::Lend { role, .. } => limits_who_holds(role, rule),
+        Action::Recall { .. } => matches!(rule, Rule::Needs { .. }),
     }
 }
 

@@ -71,12 +71,21 @@ impl State {
         self.sessions.contains_key(&session)
     }
 
+    pub fn is_open_for(&self, session: i64, user: i64) -> bool {
+        self.sessions.get(&session).is_some_and(|session| session.user == user)
+    }
+
     pub fn active_in(&self, session: i64) -> impl Iterator<Item = i64> + '_ {
         self.active.range((session, 0)..(session + 1, 0)).map(|&(_, role)| role)
     }
 
     pub fn is_active(&self, session: i64, role: i64) -> bool {
         self.active.contains(&(session, role))
+    }
+
+    /// Whether a role active in the session carries the permission.
+    pub fn is_carried_in(&self, session: i64, permission: i64) -> bool {
+        self.active_in(session).any(|role| self.carries(role, permission))
     }
 
     pub fn is_active_anywhere(&self, role: i64) -> bool {
