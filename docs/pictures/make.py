@@ -304,21 +304,22 @@ def is_active(rules, steps, session, role):
 def step():
     left, right, wide, high = 40, 440, 270, 54
     middle, far = left + wide / 2, right + wide / 2
-    tops = range(56, 56 + 4 * 86, 86)
+    tops = range(56, 56 + 5 * 86, 86)
     asked = [
         ["one line of the steps", "`(activate 0 2)`"],
         ["is every number in its range?"],
+        ["has the acting session the right?", "53, 54, of six kinds of step"],
         ["do the step's own checks pass?", "21 to 28, 50 to 52, in the row's order"],
         ["select the rules", "that this kind of step looks at"],
     ]
     parts = [text(24, 30, "What happens to one step", size=15)]
     parts += [box(left, top, wide, high, lines) for top, lines in zip(tops, asked)]
     parts += [arrow([(middle, top - 32), (middle, top)]) for top in tops[1:]]
-    for top, lines in ((tops[1], ["`(no 20 0 0)`"]), (tops[2], ["`(no NUMBER 0 0)`"])):
+    for top, lines in ((tops[1], ["`(no 20 0 0)`"]), *((top, ["`(no NUMBER 0 0)`"]) for top in tops[2:4])):
         parts += [arrow([(left + wide, top + high / 2), (right, top + high / 2)], RED), text(left + wide + 10, top + 20, "no", fill=GREY)]
         parts.append(box(right, top, wide, high, [*lines, "nothing changes"], PALE_RED, RED))
         parts.append(text(middle + 10, top + high + 20, "yes", fill=GREY))
-    fork, ends, last = tops[3] + high + 26, tops[3] + high + 72, tops[3] + high + 72 + 116
+    fork, ends, last = tops[4] + high + 26, tops[4] + high + 72, tops[4] + high + 72 + 116
     parts += [arrow([(middle, fork - 26), (middle, ends)]), arrow([(middle, fork), (far, fork), (far, ends)])]
     parts.append(text(middle - 10, fork + 24, "a request", "end", fill=GREY))
     parts.append(text((middle + far) / 2, fork - 8, "an event: close, move, lost, clock, recall", "middle", fill=GREY))
