@@ -111,12 +111,20 @@ module _ (step : Step) (asked action : Action) (read : asked ≡ actionOf step) 
   pub told-ranged : Ranged action
   told-ranged = subst Ranged (sym read ∙ told) (action-ranged step)
 
+  -- of a kind that cannot have a right the kind's own checks are all
+  told-free : isAdministrative action ≡ false → (list : RuleList) (s : State) → checkStep list s step ≡ check s (actionOf step)
+  unfolding checkBy
+  told-free other list s = let kind : isAdministrative (actionOf step) ≡ false = ap isAdministrative (sym read ∙ told) ∙ other in rw kind
+
   -- where neither 53 nor 54 refuses it
   pub told-decided : (list : RuleList) (s : State) (next : Next) → checkStep list s step ≡ check s (actionOf step) → next ≡ decide (rulesOf list) s action → next ≡ decideStep list s step
   unfolding decide decideStep
   told-decided list s next free e =
       e ∙ ap (λ (a : Action). checkedNext (check s a) (rulesOf list) s a) (sym told ∙ read)
       ∙ ap (λ (c : Checked). checkedNext c (rulesOf list) s (actionOf step)) (sym free)
+
+  pub told-other : isAdministrative action ≡ false → (list : RuleList) (s : State) (next : Next) → next ≡ decide (rulesOf list) s action → next ≡ decideStep list s step
+  told-other other list s next = told-decided list s next (told-free other list s)
 
 -- ---- 53 and 54
 

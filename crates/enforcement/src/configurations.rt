@@ -1,7 +1,9 @@
 // The state but for its history, as a step takes it and hands it back behind the door, and which method decides a step.
 ghost use mathlib.Core.Path.{_≡_};
+ghost use mathlib.Core.Bool.{true};
 ghost use Prim.Native.Nat.{_≤_};
 ghost use lib.ListN.{length};
+ghost use Rattle.steps.specs.Steps.{isAdministrative, actionOf};
 ghost use Rattle.enforcement.specs.Gate.{decideStep};
 ghost use Rattle.enforcement.specs.Deciding.{stateWith, nextOf, answered};
 use crate::states::State;
@@ -42,23 +44,18 @@ impl Configuration {
         ensures { λ r. ⌜ nextOf r (now (history .exit)) ≡ decideStep list (stateWith self (now (history .entry))) step ⌝ }
     {
         let action = step.action();
-        let by = step.by;
-        let rights = list.rights;
-        if is_bound(rights, by, action) {
-            let sessions = self.sessions;
-            let active = self.active;
-            let granted = self.granted;
-            let number = refusal(rights, by, action, sessions, active, granted);
-            if number != 0 {
-                return self.refused(number);
-            }
-        }
         match action {
             Action::Malformed => self.refused(20),
-            Action::Assign { user, role } => self.assign(list, user, role, history),
-            Action::Withdraw { user, role } => self.withdraw(list, user, role, history),
-            Action::Grant { role, permission } => self.grant(list, role, permission, history),
-            Action::Take { role, permission } => self.take(list, role, permission),
+            Action::Assign { user: _, role: _ } => self.administered(list, step, history),
+            Action::Withdraw { user: _, role: _ } => self.administered(list, step, history),
+            Action::Grant {
+                role: _,
+                permission: _,
+            } => self.administered(list, step, history),
+            Action::Take {
+                role: _,
+                permission: _,
+            } => self.administered(list, step, history),
             Action::Open { session, user } => self.open_session(list, session, user),
             Action::Activate { session, role } => self.activate(list, session, role, history),
             Action::Deactivate { session, role } => self.deactivate(list, session, role, history),
@@ -73,6 +70,47 @@ impl Configuration {
             Action::Lost { session } => self.lost(list, session),
             Action::Clock { time } => self.clock(list, time),
             Action::Lend {
+                lender: _,
+                borrower: _,
+                role: _,
+                until: _,
+            } => self.administered(list, step, history),
+            Action::Recall {
+                lender: _,
+                borrower: _,
+                role: _,
+            } => self.administered(list, step, history),
+        }
+    }
+
+    // A step of the six kinds that can have a right. It is apart from the others, so that they copy nothing of the list for its rights.
+    fn administered(
+        self,
+        list: RuleList,
+        step: Step,
+        history: &mut [u64; 1024],
+    ) -> NextConfiguration
+        requires { ⌜ (list .length ≤ 128) × (length (now history) ≡ 1024) × (isAdministrative (actionOf step) ≡ true) ⌝ }
+        ensures { λ r. ⌜ nextOf r (now (history .exit)) ≡ decideStep list (stateWith self (now (history .entry))) step ⌝ }
+    {
+        let action = step.action();
+        let by = step.by;
+        let rights = list.rights;
+        if is_bound(rights, by, action) {
+            let sessions = self.sessions;
+            let active = self.active;
+            let granted = self.granted;
+            let number = refusal(rights, by, action, sessions, active, granted);
+            if number != 0 {
+                return self.refused(number);
+            }
+        }
+        match action {
+            Action::Assign { user, role } => self.assign(list, user, role, history),
+            Action::Withdraw { user, role } => self.withdraw(list, user, role, history),
+            Action::Grant { role, permission } => self.grant(list, role, permission, history),
+            Action::Take { role, permission } => self.take(list, role, permission),
+            Action::Lend {
                 lender,
                 borrower,
                 role,
@@ -83,6 +121,7 @@ impl Configuration {
                 borrower,
                 role,
             } => self.recall(list, lender, borrower, role),
+            _ => self.refused(20),
         }
     }
 
