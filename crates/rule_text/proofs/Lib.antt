@@ -6,7 +6,9 @@ pub mod RightLines
 pub mod Causes
 pub mod RightLists
 pub mod RightLoop
+pub mod NumberedLines
 pub mod Lists
+pub mod LineLoop
 pub mod Prefixes
 pub mod Slots
 pub mod Loaded

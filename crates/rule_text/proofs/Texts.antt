@@ -41,7 +41,7 @@ map-more : (slots : List Slot) (s : Slot) → map ruleOf (slots ++ (s ∷ [])) �
 map-more [] s = refl
 map-more (t ∷ slots) s = ap (λ (l : List Rule). t .rule ∷ l) (map-more slots s)
 
-text-more : (n : ℕ) (rules : List Rule) (rule : Rule) → listText n (rules ++ (rule ∷ [])) ≡ listText n rules ++ ruleText (n + length rules) rule
+text-more : (n : ℕ) (rules : List Rule) (rule : Rule) → listText ruleText n (rules ++ (rule ∷ [])) ≡ listText ruleText n rules ++ ruleText (n + length rules) rule
 unfolding listText
 text-more n [] rule = rw (add-zero, append-nil)
 text-more n (r ∷ rules) rule =
@@ -49,7 +49,7 @@ text-more n (r ∷ rules) rule =
     rw (text-more (suc n) rules rule, e, append-assoc)
 
 -- the text of one rule more
-next-text : (slots : List Slot) (i : ℕ) (s : Slot) → i < length slots → listText 1 (firstRules (i + 1) slots) ≡ listText 1 (firstRules i slots) ++ ruleText (i + 1) (getD slots i s .rule)
+next-text : (slots : List Slot) (i : ℕ) (s : Slot) → i < length slots → listText ruleText 1 (firstRules (i + 1) slots) ≡ listText ruleText 1 (firstRules i slots) ++ ruleText (i + 1) (getD slots i s .rule)
 next-text slots i s h =
     let e : 1 + length (firstRules i slots) ≡ suc i = omega (arith, length-map (take i slots) ruleOf, length-take-le i slots (omega arith)) in
     rw (add-one, take-suc slots i s h, map-more (take i slots) (getD slots i s)) (rw e at (text-more 1 (firstRules i slots) (getD slots i s .rule)))
@@ -57,7 +57,7 @@ next-text slots i s h =
 -- the loop of `put_rules`: the first i rules are written
 pub record Inv (lent : List ℕ) (start : ℕ) (list : RuleList) (out : List ℕ) (at i : ℕ) : Type 0 where
   pub within : i ≤ list .length
-  pub written : Wrote lent start (listText 1 (firstRules i (list .slots))) at out
+  pub written : Wrote lent start (listText ruleText 1 (firstRules i (list .slots))) at out
 
 pub start : (lent : List ℕ) (at : ℕ) (list : RuleList) → at ≤ lastPlace → Inv lent at list lent at 0
 unfolding listText
@@ -70,7 +70,7 @@ turn {lent} {start} {list} {out} {at} {i} inv small slots most more s w = record
   written = like (next-text (list .slots) i s (omega arith)) (then small (inv .written) w);
 }
 
-pub end : {lent : List ℕ} {start : ℕ} {list : RuleList} {out : List ℕ} {at i : ℕ} → Inv lent start list out at i → list .length ≤ i → Wrote lent start (listText 1 (rulesOf list)) at out
+pub end : {lent : List ℕ} {start : ℕ} {list : RuleList} {out : List ℕ} {at i : ℕ} → Inv lent start list out at i → list .length ≤ i → Wrote lent start (listText ruleText 1 (rulesOf list)) at out
 end {lent} {start} {list} {out} {at} {i} inv done =
     let all : i ≡ list .length = omega (arith, inv .within) in
     rw all at (inv .written)
@@ -133,7 +133,7 @@ unfolding ruleText
 rule-short n rule first last in-range =
     line-short (lineOf n rule .form) (lineOf n rule .values) (omega (arith, form-of-rule n rule)) (rule-line-in-range n rule first last in-range)
 
-rules-short : (n : ℕ) (rules : List Rule) → 1 ≤ n → n + length rules ≤ 129 → every ruleAccepted rules ≡ true → length (listText n rules) ≤ 495 * length rules
+rules-short : (n : ℕ) (rules : List Rule) → 1 ≤ n → n + length rules ≤ 129 → every ruleAccepted rules ≡ true → length (listText ruleText n rules) ≤ 495 * length rules
 unfolding listText every
 rules-short n [] first few accepted = omega arith
 rules-short n (rule ∷ rules) first few accepted =

@@ -90,10 +90,10 @@ lineText l = fill (formAt ruleForms (l .form)) (l .values)
 unfoldable pub ruleText : ℕ → Rule → List ℕ
 ruleText n rule = lineText (lineOf n rule)
 
--- "numbered from 1 by ones; an empty list is legal": the rules as text, the first of them being rule n
-unfoldable pub listText : ℕ → List Rule → List ℕ
-listText n [] = []
-listText n (rule ∷ rules) = ruleText n rule ++ listText (suc n) rules
+-- "numbered from 1 by ones; an empty list is legal": the rules as text, by the line of each, the first of them being rule n
+unfoldable pub listText : (ℕ → Rule → List ℕ) → ℕ → List Rule → List ℕ
+listText ruleLine n [] = []
+listText ruleLine n (rule ∷ rules) = ruleLine n rule ++ listText ruleLine (suc n) rules
 
 -- ---- a right as a line
 
@@ -124,7 +124,7 @@ rightLines (slot ∷ slots) = lineCount (slot .right) + rightLines slots
 
 -- "Before the rules a list may have `(right assign 30)`"
 abbrev pub linesText : List RightSlot → List Rule → List ℕ
-linesText rights rules = rightsText 0 rights ++ listText 1 rules
+linesText rights rules = rightsText 0 rights ++ listText ruleText 1 rules
 
 -- the line after them; those of the rights count as lines
 abbrev pub nextLine : List RightSlot → List Rule → ℕ

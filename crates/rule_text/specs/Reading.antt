@@ -105,11 +105,11 @@ abbrev pub lineThen : LineRead → RulesRead → RulesRead
 lineThen (Good entry) lines = record { rules = entry .rule ∷ lines .rules; length = entry .length + lines .length; number = lines .number }
 lineThen (Bad number) lines = stopped number
 
--- from rule n on; the first argument bounds the lines that are read
-unfoldable pub readFrom : ℕ → ℕ → List ℕ → RulesRead
-readFrom zero n text = stopped 0
-readFrom (suc bound) n [] = stopped 0
-readFrom (suc bound) n (c ∷ text) = lineThen (readLine n (c ∷ text)) (readFrom bound (suc n) (drop (lengthIn (readLine n (c ∷ text))) (c ∷ text)))
+-- from rule n on, by what reading a line gives; the second argument bounds the lines that are read
+unfoldable pub readFrom : (ℕ → List ℕ → LineRead) → ℕ → ℕ → List ℕ → RulesRead
+readFrom read zero n text = stopped 0
+readFrom read (suc bound) n [] = stopped 0
+readFrom read (suc bound) n (c ∷ text) = lineThen (read n (c ∷ text)) (readFrom read bound (suc n) (drop (lengthIn (read n (c ∷ text))) (c ∷ text)))
 
 -- the rights before them, and the bytes of both
 pub record LinesRead : Type 0 where
@@ -123,7 +123,7 @@ rightsThen before lines = record { rights = before .rights; rules = lines .rules
 
 -- "Rules are numbered 1 to 128.": no line after the 128th rule's is good, so that 129 lines are enough
 unfoldable pub readLines : List ℕ → LinesRead
-readLines text = rightsThen (readRights text) (readFrom 129 1 (drop (readRights text .length) text))
+readLines text = rightsThen (readRights text) (readFrom readLine 129 1 (drop (readRights text .length) text))
 
 -- ---- as the code returns it
 

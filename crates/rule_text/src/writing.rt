@@ -58,7 +58,7 @@ fn put_rule(number: u64, rule: Rule, out: &mut [u8], at: usize) -> usize
 // Writes the lines of the rules from a place on, and returns where they end.
 fn put_rules(list: RuleList, out: &mut [u8], start: usize) -> usize
     requires { ⌜ list .length ≤ 128 ⌝ }
-    ensures { λ r. ⌜ Wrote (now (out .entry)) start (listText 1 (rulesOf list)) r (now (out .exit)) ⌝ }
+    ensures { λ r. ⌜ Wrote (now (out .entry)) start (listText ruleText 1 (rulesOf list)) r (now (out .exit)) ⌝ }
 {
     let length = list.length;
     let mut at = start;

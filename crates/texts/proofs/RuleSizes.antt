@@ -157,7 +157,7 @@ sum-all : digitSum 128 1 ≡ 276
 unfolding digitSum digitsOf digitsWithin
 sum-all = refl
 
-list-most : (rules : List Rule) (m : ℕ) → 1 ≤ m → m + length rules ≤ 129 → every ruleAccepted rules ≡ true → length (listText m rules) ≤ 68 * length rules + digitSum (length rules) m
+list-most : (rules : List Rule) (m : ℕ) → 1 ≤ m → m + length rules ≤ 129 → every ruleAccepted rules ≡ true → length (listText ruleText m rules) ≤ 68 * length rules + digitSum (length rules) m
 unfolding listText every digitSum
 list-most [] m first last h = omega arith
 list-most (rule ∷ rules) m first last h =
@@ -227,12 +227,12 @@ longest-line n =
     ∙ opened (drop 7 (formAt ruleForms 16)) (n ∷ 31 ∷ 10001000000 ∷ 10001000000 ∷ 10001000000 ∷ 10001000000 ∷ [])
     ∙ omega (arith, longest-rest)
 
-longest-lines : (n m : ℕ) → length (listText m (replicate n longestRule)) ≡ 68 * n + digitSum n m
+longest-lines : (n m : ℕ) → length (listText ruleText m (replicate n longestRule)) ≡ 68 * n + digitSum n m
 unfolding listText digitSum
 longest-lines zero m = refl
 longest-lines (suc n) m = rw length-append (omega (arith, longest-line m, longest-lines n (suc m)))
 
-longest-rules : length (listText 1 longestRules) ≡ 8980
+longest-rules : length (listText ruleText 1 longestRules) ≡ 8980
 unfolding longestRules
 longest-rules = omega (arith, longest-lines 128 1, sum-all)
 
