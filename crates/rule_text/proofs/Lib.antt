@@ -1,6 +1,7 @@
 pub mod Marks
 pub mod Values
 pub mod Ranges
+pub mod LineTables
 pub mod Inverse
 pub mod RightLines
 pub mod Causes

@@ -34,11 +34,11 @@ use Rattle.rule_text.proofs.Values.{marksAt, each-at}
 abbrev pub IsShort : ℤ → Type 0
 IsShort z = natAbs z ≤ 9999999999
 
-number-range : (n : ℕ) → inRange 35 n ≡ leb 1 n && leb n 128
+pub number-range : (n : ℕ) → inRange 35 n ≡ leb 1 n && leb n 128
 unfolding inRange inRangeBy kindOf lookup
 number-range n = refl
 
-role-range : (r : ℕ) → inRange 36 r ≡ isRole r
+pub role-range : (r : ℕ) → inRange 36 r ≡ isRole r
 unfolding inRange inRangeBy kindOf lookup
 role-range r = rw (leb·zero r) (sym (leb·suc-suc r 31))
 
@@ -46,11 +46,11 @@ pub permission-range : (p : ℕ) → inRange 37 p ≡ isPermission p
 unfolding inRange inRangeBy kindOf lookup
 permission-range p = rw (leb·zero p) (sym (leb·suc-suc p 31))
 
-user-limit-range : (limit : ℕ) → inRange 62 limit ≡ leb limit 64
+pub user-limit-range : (limit : ℕ) → inRange 62 limit ≡ leb limit 64
 unfolding inRange inRangeBy kindOf lookup
 user-limit-range limit = rw (leb·zero limit)
 
-limit-range : (limit : ℕ) → inRange 60 limit ≡ leb limit 32
+pub limit-range : (limit : ℕ) → inRange 60 limit ≡ leb limit 32
 unfolding inRange inRangeBy kindOf lookup
 limit-range limit = rw (leb·zero limit)
 

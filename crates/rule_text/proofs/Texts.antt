@@ -41,42 +41,55 @@ map-more : (slots : List Slot) (s : Slot) → map ruleOf (slots ++ (s ∷ [])) �
 map-more [] s = refl
 map-more (t ∷ slots) s = ap (λ (l : List Rule). t .rule ∷ l) (map-more slots s)
 
-text-more : (n : ℕ) (rules : List Rule) (rule : Rule) → listText ruleText n (rules ++ (rule ∷ [])) ≡ listText ruleText n rules ++ ruleText (n + length rules) rule
-unfolding listText
-text-more n [] rule = rw (add-zero, append-nil)
-text-more n (r ∷ rules) rule =
-    let e : suc n + length rules ≡ n + suc (length rules) = omega arith in
-    rw (text-more (suc n) rules rule, e, append-assoc)
+-- in any language, by the text of a rule's line
+module _ (line : ℕ → Rule → List ℕ) where
+  text-more : (n : ℕ) (rules : List Rule) (rule : Rule) → listText line n (rules ++ (rule ∷ [])) ≡ listText line n rules ++ line (n + length rules) rule
+  unfolding listText
+  text-more n [] rule = rw (add-zero, append-nil)
+  text-more n (r ∷ rules) rule =
+      let e : suc n + length rules ≡ n + suc (length rules) = omega arith in
+      rw (text-more (suc n) rules rule, e, append-assoc)
 
--- the text of one rule more
-next-text : (slots : List Slot) (i : ℕ) (s : Slot) → i < length slots → listText ruleText 1 (firstRules (i + 1) slots) ≡ listText ruleText 1 (firstRules i slots) ++ ruleText (i + 1) (getD slots i s .rule)
-next-text slots i s h =
-    let e : 1 + length (firstRules i slots) ≡ suc i = omega (arith, length-map (take i slots) ruleOf, length-take-le i slots (omega arith)) in
-    rw (add-one, take-suc slots i s h, map-more (take i slots) (getD slots i s)) (rw e at (text-more 1 (firstRules i slots) (getD slots i s .rule)))
+  -- the text of one rule more
+  next-text : (slots : List Slot) (i : ℕ) (s : Slot) → i < length slots
+      → listText line 1 (firstRules (i + 1) slots) ≡ listText line 1 (firstRules i slots) ++ line (i + 1) (getD slots i s .rule)
+  next-text slots i s h =
+      let e : 1 + length (firstRules i slots) ≡ suc i = omega (arith, length-map (take i slots) ruleOf, length-take-le i slots (omega arith)) in
+      rw (add-one, take-suc slots i s h, map-more (take i slots) (getD slots i s)) (rw e at (text-more 1 (firstRules i slots) (getD slots i s .rule)))
 
--- the loop of `put_rules`: the first i rules are written
-pub record Inv (lent : List ℕ) (start : ℕ) (list : RuleList) (out : List ℕ) (at i : ℕ) : Type 0 where
-  pub within : i ≤ list .length
-  pub written : Wrote lent start (listText ruleText 1 (firstRules i (list .slots))) at out
+  -- a loop that writes the rules: the first i of them are written
+  pub record Inv (lent : List ℕ) (start : ℕ) (list : RuleList) (out : List ℕ) (at i : ℕ) : Type 0 where
+    pub within : i ≤ list .length
+    pub written : Wrote lent start (listText line 1 (firstRules i (list .slots))) at out
 
-pub start : (lent : List ℕ) (at : ℕ) (list : RuleList) → at ≤ lastPlace → Inv lent at list lent at 0
-unfolding listText
-start lent at list h = record { within = omega arith; written = nothing-written lent at h }
+  pub start : (lent : List ℕ) (at : ℕ) (list : RuleList) → at ≤ lastPlace → Inv lent at list lent at 0
+  unfolding listText
+  start lent at list h = record { within = omega arith; written = nothing-written lent at h }
 
-pub turn : {lent : List ℕ} {start : ℕ} {list : RuleList} {out : List ℕ} {at i : ℕ} → Inv lent start list out at i → length lent ≤ lastPlace → length (list .slots) ≡ 128 → list .length ≤ 128 → i < list .length
-    → (s : Slot) {at′ : ℕ} {out′ : List ℕ} → Wrote out at (ruleText (i + 1) (getD (list .slots) i s .rule)) at′ out′ → Inv lent start list out′ at′ (i + 1)
-turn {lent} {start} {list} {out} {at} {i} inv small slots most more s w = record {
-  within = omega arith;
-  written = like (next-text (list .slots) i s (omega arith)) (then small (inv .written) w);
-}
+  pub turn : {lent : List ℕ} {start : ℕ} {list : RuleList} {out : List ℕ} {at i : ℕ} → Inv lent start list out at i → length lent ≤ lastPlace → length (list .slots) ≡ 128 → list .length ≤ 128 → i < list .length
+      → (s : Slot) {at′ : ℕ} {out′ : List ℕ} → Wrote out at (line (i + 1) (getD (list .slots) i s .rule)) at′ out′ → Inv lent start list out′ at′ (i + 1)
+  turn {lent} {start} {list} {out} {at} {i} inv small slots most more s w = record {
+    within = omega arith;
+    written = like (next-text (list .slots) i s (omega arith)) (then small (inv .written) w);
+  }
 
-pub end : {lent : List ℕ} {start : ℕ} {list : RuleList} {out : List ℕ} {at i : ℕ} → Inv lent start list out at i → list .length ≤ i → Wrote lent start (listText ruleText 1 (rulesOf list)) at out
-end {lent} {start} {list} {out} {at} {i} inv done =
-    let all : i ≡ list .length = omega (arith, inv .within) in
-    rw all at (inv .written)
+  pub end : {lent : List ℕ} {start : ℕ} {list : RuleList} {out : List ℕ} {at i : ℕ} → Inv lent start list out at i → list .length ≤ i → Wrote lent start (listText line 1 (rulesOf list)) at out
+  end {lent} {start} {list} {out} {at} {i} inv done =
+      let all : i ≡ list .length = omega (arith, inv .within) in
+      rw all at (inv .written)
 
-pub same-size : {lent : List ℕ} {start : ℕ} {list : RuleList} {out : List ℕ} {at i : ℕ} → Inv lent start list out at i → length out ≡ length lent
-same-size inv = same-length (inv .written)
+  pub same-size : {lent : List ℕ} {start : ℕ} {list : RuleList} {out : List ℕ} {at i : ℕ} → Inv lent start list out at i → length out ≡ length lent
+  same-size inv = same-length (inv .written)
+
+  -- where no line of an accepted rule has more than 495 bytes
+  pub rules-short : ((n : ℕ) (rule : Rule) → 1 ≤ n → n ≤ 128 → ruleInRange rule ≡ true → length (line n rule) ≤ 495)
+      → (n : ℕ) (rules : List Rule) → 1 ≤ n → n + length rules ≤ 129 → every ruleAccepted rules ≡ true → length (listText line n rules) ≤ 495 * length rules
+  unfolding listText every
+  rules-short short n [] first few accepted = omega arith
+  rules-short short n (rule ∷ rules) first few accepted =
+      let parts = both (ruleAccepted rule) (every ruleAccepted rules) accepted in
+      let in-range = both (ruleInRange rule) (ruleDistinct rule && ruleSound rule) (parts .0) .0 in
+      rw length-append (omega (arith, short n rule first (omega arith) in-range, rules-short short (suc n) rules (omega arith) (omega arith) (parts .1)))
 
 -- ---- right by right
 
@@ -133,14 +146,6 @@ unfolding ruleText
 rule-short n rule first last in-range =
     line-short (lineOf n rule .form) (lineOf n rule .values) (omega (arith, form-of-rule n rule)) (rule-line-in-range n rule first last in-range)
 
-rules-short : (n : ℕ) (rules : List Rule) → 1 ≤ n → n + length rules ≤ 129 → every ruleAccepted rules ≡ true → length (listText ruleText n rules) ≤ 495 * length rules
-unfolding listText every
-rules-short n [] first few accepted = omega arith
-rules-short n (rule ∷ rules) first few accepted =
-    let parts = both (ruleAccepted rule) (every ruleAccepted rules) accepted in
-    let in-range = both (ruleInRange rule) (ruleDistinct rule && ruleSound rule) (parts .0) .0 in
-    rw length-append (omega (arith, rule-short n rule first (omega arith) in-range, rules-short (suc n) rules (omega arith) (omega arith) (parts .1)))
-
 right-short : (kind : ℕ) (right : Right) → kind < 6 → rightAccepted right ≡ true → length (rightText kind right) ≤ 495
 unfolding rightText
 right-short kind Unstated h in-range = omega arith
@@ -160,4 +165,4 @@ text-short list kinds accepted =
     let good = accepted-good list kinds accepted in
     let few = good .few in
     let rights = rights-short 0 (list .rights) (omega arith) (λ i h. good .in-range i (omega arith)) in
-    rw length-append (omega (arith, rights, rules-short 1 (rulesOf list) (omega arith) (omega arith) (good .accepted)))
+    rw length-append (omega (arith, rights, rules-short ruleText rule-short 1 (rulesOf list) (omega arith) (omega arith) (good .accepted)))

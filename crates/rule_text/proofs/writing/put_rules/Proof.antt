@@ -5,12 +5,13 @@ use Prim.Native.Nat.{_-_}
 use native.Mathlib.Omega.{arith}
 use lib.ListN.{length, length-map}
 use borrow.Author.Needs.{needs}
+use Rattle.rule_text.specs.Lines.{ruleText}
 use Rattle.rule_text.proofs.Texts.{Inv, start, turn, end, same-size}
 use Rattle.rule_text.proofs.writing.put_rules.Statement.{statement}
 use Rattle.rule_text.proofs.writing.put_rules.Tie as tie
 
 abbrev Inv-loop : tie.InvT-loop
-Inv-loop out₀ start list length at₀ i₀ out at i = Inv out₀ start list out at i
+Inv-loop out₀ start list length at₀ i₀ out at i = Inv ruleText out₀ start list out at i
 
 abbrev μ-loop : tie.MeasureT-loop
 μ-loop out₀ start list length at₀ i₀ out at i = length - i
@@ -20,7 +21,7 @@ slots-length : (c : tie.Start Inv-loop μ-loop) → length (c .args .t1 .slots) 
 slots-length c = sym (length-map (c .args .t1 .slots) _) ∙ c .good .0 .1 .1 .0 .1 .0 .1
 
 loop-holds : tie.Need-loop-holds Inv-loop μ-loop
-loop-holds c = start _ _ _ (omega arith)
+loop-holds c = start ruleText _ _ _ (omega arith)
 
 mul-slot : tie.Need-mul-slot Inv-loop μ-loop
 mul-slot c = search needs
@@ -38,13 +39,13 @@ loop-less : tie.Need-loop-less Inv-loop μ-loop
 loop-less c = search needs
 
 loop-again : tie.Need-loop-again Inv-loop μ-loop
-loop-again c = turn (c .before .before .before .before .before .before .loop .inv) (omega arith) (slots-length (c .before .before .before .before .before .before .before .before)) (omega arith) (omega arith) _ (c .before .before .put-rule .ensures)
+loop-again c = turn ruleText (c .before .before .before .before .before .before .loop .inv) (omega arith) (slots-length (c .before .before .before .before .before .before .before .before)) (omega arith) (omega arith) _ (c .before .before .put-rule .ensures)
 
 same-length : tie.Need-same-length Inv-loop μ-loop
-same-length c = same-size (c .before .loop .inv)
+same-length c = same-size ruleText (c .before .loop .inv)
 
 returns : tie.Need-returns Inv-loop μ-loop
-returns c = end (c .before .loop .inv) (omega arith)
+returns c = end ruleText (c .before .loop .inv) (omega arith)
 
 pub put-rules-spec : {M : Type 1} → statement M
 put-rules-spec =
