@@ -122,7 +122,7 @@ fn plain_line(
 }
 
 // A line of one or two numbers besides the rule's own.
-fn short_line(form: usize, number: u64, first: u32, second: u32) -> Line
+pub fn short_line(form: usize, number: u64, first: u32, second: u32) -> Line
     ensures { λ l. ⌜ l ≡ line form (number ∷ first ∷ second ∷ 0 ∷ 0 ∷ 0 ∷ []) ⌝ }
 {
     plain_line(form, number, first, second, 0, 0, 0)

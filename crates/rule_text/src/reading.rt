@@ -65,7 +65,7 @@ fn read_line(text: &[u8], number: u64) -> LineRead
 }
 
 // A rule that was found is accepted unless 13 or 14 refuses it.
-fn rule_read(rule: Rule, length: usize) -> LineRead
+pub fn rule_read(rule: Rule, length: usize) -> LineRead
     ensures { λ r. ⌜ r ≡ ruleRead rule length ⌝ }
 {
     if !rule.is_distinct() {
@@ -78,7 +78,7 @@ fn rule_read(rule: Rule, length: usize) -> LineRead
 }
 
 // The number of a refused line, 0 of a good one.
-fn number_in(answer: LineRead) -> u64
+pub fn number_in(answer: LineRead) -> u64
     ensures { λ r. ⌜ r ≡ numberIn answer ⌝ }
 {
     match answer {
@@ -88,7 +88,7 @@ fn number_in(answer: LineRead) -> u64
 }
 
 // The empty list: each slot holds the filler, and no right is stated.
-fn no_rules() -> RuleList
+pub fn no_rules() -> RuleList
     ensures { λ r. ⌜ r ≡ listOf noRights [] ⌝ }
 {
     RuleList {

@@ -60,7 +60,7 @@ fn no_right() -> RightRead
 }
 
 // A right has one line, and none where it is not stated.
-fn line_count(right: Right) -> usize
+pub fn line_count(right: Right) -> usize
     ensures { λ r. ⌜ (r ≡ lineCount right) × (r ≤ 1) ⌝ }
 {
     match right {

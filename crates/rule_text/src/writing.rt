@@ -4,7 +4,7 @@ ghost use Prim.Native.Nat.{_≤_, _<_};
 ghost use Rattle.forms.specs.Writing.{Wrote};
 ghost use Rattle.rules.specs.Acceptance.{rulesOf};
 ghost use Rattle.rule_text.specs.Lines.{lineText, rightText, rightsText, ruleText, listText};
-ghost use Rattle.rule_text.specs.Writing.{textOf, writtenRules, lentAfterRules};
+ghost use Rattle.rule_text.specs.Writing.{textOf, rulesLength, writtenRules, lentAfterRules};
 use crate::lines;
 use crate::lines::FORMS;
 use crate::lines::Line;
@@ -80,6 +80,17 @@ fn put_list(list: RuleList, out: &mut [u8]) -> usize
     let rights = list.rights;
     let at = put_rights(rights, out);
     put_rules(list, out, at)
+}
+
+// The bytes of an accepted list's text: the space that a write of it takes. Of a list that 40 refuses, 0.
+pub fn rules_length(list: RuleList) -> usize
+    ensures { λ r. ⌜ r ≡ rulesLength list ⌝ }
+{
+    if !list.is_accepted() {
+        return 0;
+    }
+    let mut space = [0u8; 1];
+    put_list(list, &mut space)
 }
 
 // Writes a rule list. Its length is measured in the empty part of the lent space, so that a refusal leaves every byte.
