@@ -14,7 +14,7 @@ use Rattle.rule_text.proofs.RightLists.{lines-few, reads-rights}
 use Rattle.rule_text.proofs.LineLoop.{onto, Inv}
 use Rattle.forms.proofs.Turns as turns
 
-start-same : (before : RightsRead) (lines : RulesRead) → prefixOf (rightsThen before lines) ≡ onto (listOf (before .rights) []) (before .length) lines
+pub start-same : (before : RightsRead) (lines : RulesRead) → prefixOf (rightsThen before lines) ≡ onto (listOf (before .rights) []) (before .length) lines
 unfolding prefixOf listOf
 start-same before lines =
     let a : 0 + length (lines .rules) ≡ length (lines .rules) = omega arith in

@@ -82,18 +82,22 @@ list-few list accepted =
     let most = accepted-most list accepted in
     rw (length-map (take (list .length) (list .slots)) ruleOf, length-take) (omega arith)
 
+-- each of its rules is accepted, and each of its rights
+accepted-parts : (list : RuleList) → listAccepted list ≡ true → (every ruleAccepted (rulesOf list) ≡ true) × (rightsAccepted (list .rights) ≡ true)
+unfolding listAccepted
+accepted-parts list accepted =
+    both (every ruleAccepted (rulesOf list)) (rightsAccepted (list .rights)) (both (leb (list .length) 128) (every ruleAccepted (rulesOf list) && rightsAccepted (list .rights)) accepted .1)
+
+pub accepted-rules : (list : RuleList) → listAccepted list ≡ true → every ruleAccepted (rulesOf list) ≡ true
+accepted-rules list accepted = accepted-parts list accepted .0
+
 pub accepted-good : (list : RuleList) → length (list .rights) ≡ 6 → listAccepted list ≡ true → GoodLines (list .rights) (rulesOf list)
 accepted-good list kinds accepted = record {
   kinds = kinds;
-  in-range = of-all 6 (λ kind. rightAccepted (rightAt (list .rights) kind)) (parts .1);
+  in-range = of-all 6 (λ kind. rightAccepted (rightAt (list .rights) kind)) (accepted-parts list accepted .1);
   few = list-few list accepted;
-  accepted = parts .0;
+  accepted = accepted-rules list accepted;
 }
-  where
-    parts : (every ruleAccepted (rulesOf list) ≡ true) × (rightsAccepted (list .rights) ≡ true)
-    parts =
-        unfold listAccepted in
-        both (every ruleAccepted (rulesOf list)) (rightsAccepted (list .rights)) (both (leb (list .length) 128) (every ruleAccepted (rulesOf list) && rightsAccepted (list .rights)) accepted .1)
 
 -- no rights and no rules
 pub none-good : GoodLines noRights []

@@ -81,9 +81,9 @@ module _ (line : ℕ → Rule → List ℕ) where
   pub same-size : {lent : List ℕ} {start : ℕ} {list : RuleList} {out : List ℕ} {at i : ℕ} → Inv lent start list out at i → length out ≡ length lent
   same-size inv = same-length (inv .written)
 
-  -- where no line of an accepted rule has more than 495 bytes
-  pub rules-short : ((n : ℕ) (rule : Rule) → 1 ≤ n → n ≤ 128 → ruleInRange rule ≡ true → length (line n rule) ≤ 495)
-      → (n : ℕ) (rules : List Rule) → 1 ≤ n → n + length rules ≤ 129 → every ruleAccepted rules ≡ true → length (listText line n rules) ≤ 495 * length rules
+  -- where no line of an accepted rule has more than 600 bytes
+  pub rules-short : ((n : ℕ) (rule : Rule) → 1 ≤ n → n ≤ 128 → ruleInRange rule ≡ true → length (line n rule) ≤ 600)
+      → (n : ℕ) (rules : List Rule) → 1 ≤ n → n + length rules ≤ 129 → every ruleAccepted rules ≡ true → length (listText line n rules) ≤ 600 * length rules
   unfolding listText every
   rules-short short n [] first few accepted = omega arith
   rules-short short n (rule ∷ rules) first few accepted =
@@ -136,24 +136,24 @@ unfolding everyForm linesIn ruleForms
 forms-short = refl
 
 -- a form with values that fit
-line-short : (k : ℕ) (values : List ℕ) → k < formCount → allInRange (formAt ruleForms k) values ≡ true → length (fill (formAt ruleForms k) values) ≤ 495
+line-short : (k : ℕ) (values : List ℕ) → k < formCount → allInRange (formAt ruleForms k) values ≡ true → length (fill (formAt ruleForms k) values) ≤ 600
 line-short k values h in-range =
     let form = leb-true (length (formAt ruleForms k)) 45 (form-at (λ t. leb (length t) 45) forms-short k h) in
     omega (arith, fill-length (formAt ruleForms k) values (range-fits (formAt ruleForms k) values in-range))
 
-rule-short : (n : ℕ) (rule : Rule) → 1 ≤ n → n ≤ 128 → ruleInRange rule ≡ true → length (ruleText n rule) ≤ 495
+rule-short : (n : ℕ) (rule : Rule) → 1 ≤ n → n ≤ 128 → ruleInRange rule ≡ true → length (ruleText n rule) ≤ 600
 unfolding ruleText
 rule-short n rule first last in-range =
     line-short (lineOf n rule .form) (lineOf n rule .values) (omega (arith, form-of-rule n rule)) (rule-line-in-range n rule first last in-range)
 
-right-short : (kind : ℕ) (right : Right) → kind < 6 → rightAccepted right ≡ true → length (rightText kind right) ≤ 495
+right-short : (kind : ℕ) (right : Right) → kind < 6 → rightAccepted right ≡ true → length (rightText kind right) ≤ 600
 unfolding rightText
 right-short kind Unstated h in-range = omega arith
 right-short kind (Permission p) h in-range =
     line-short (ruleFormCount + kind) (p ∷ 0 ∷ 0 ∷ 0 ∷ 0 ∷ 0 ∷ []) (omega arith) (right-in-range kind p h in-range)
 
 rights-short : (kind : ℕ) (rights : List RightSlot) → kind + length rights ≤ 6 → ((i : ℕ) → i < length rights → rightAccepted (rightAt rights i) ≡ true)
-    → length (rightsText kind rights) ≤ 495 * length rights
+    → length (rightsText kind rights) ≤ 600 * length rights
 unfolding rightsText
 rights-short kind [] few accepted = omega arith
 rights-short kind (slot ∷ rights) few accepted =

@@ -89,7 +89,7 @@ each-from zero i k P e h = absurd (omega arith)
 each-from (suc n) i zero P e h = let z : i + 0 ≡ i = omega arith in rw z (e .0)
 each-from (suc n) i (suc k) P e h = let z : suc i + k ≡ i + suc k = omega arith in rw z at (each-from n (suc i) k P (e .1) (omega arith))
 
-each-below : (n : ℕ) (P : ℕ → Type 0) → Each n 0 P → (k : ℕ) → k < n → P k
+pub each-below : (n : ℕ) (P : ℕ → Type 0) → Each n 0 P → (k : ℕ) → k < n → P k
 each-below n P e k h = let z : 0 + k ≡ k = omega arith in rw z at (each-from n 0 k P e h)
 
 -- at each form of a rule

@@ -1,0 +1,10 @@
+pub mod Table
+pub mod Causes
+pub mod Lists
+pub mod Loop
+pub mod Back
+pub mod Missing
+pub mod Fitting
+pub mod Room
+pub mod Journeys
+pub mod Words
