@@ -6,16 +6,19 @@ ghost use lib.ListN.{length};
 ghost use Rattle.enforcement.specs.States.{fresh};
 ghost use Rattle.rule_text.specs.Reading.{readLines, loadedOf};
 ghost use Rattle.rule_text.specs.Writing.{textOf};
+ghost use Rattle.policy_text.specs.Reading.{policiesRead};
+ghost use Rattle.policy_text.specs.Writing.{policiesText};
 ghost use Rattle.state_text.specs.Saving.{savedText};
 ghost use Rattle.texts.specs.Response.{responseOf};
 ghost use Rattle.texts.specs.SavedRuns.{loadTexts, rulesIn, outputReport, rulesCopyReport, savedReport, stateIn, copyReport, savedOutcome};
+ghost use Rattle.texts.specs.Policies.{rulesFromReport, policiesFromReport};
 ghost use Rattle.pitch_gate.specs.Reports.{version, textNumber, Told, Given, Handed, responseReport, readReport, rulesReport, textsReport};
 use forms::Written;
 use texts::Report;
 use texts::Text;
 
-// 10,000 for each major version, 100 for each minor one and 1 for each correction: this is 2.2.0.
-const VERSION: u64 = 20_200;
+// 10,000 for each major version, 100 for each minor one and 1 for each correction: this is 2.3.0.
+const VERSION: u64 = 20_300;
 
 // The version of the library that is linked.
 #[no_mangle]
@@ -84,6 +87,30 @@ pub extern "C" fn pitch_gate_fresh_state(state: &mut [u8], report: &mut [u64; 4]
     tell(texts::fresh_state(state), report)
 }
 
+// Our rule list from policies of GEMRBAC-DSL.
+#[no_mangle]
+pub extern "C" fn pitch_gate_rules_from_policies(
+    policies: &[u8],
+    rules: &mut [u8],
+    report: &mut [u64; 4],
+) -> u64
+    ensures { λ r. ⌜ Given (rulesFromReport (loadedOf (policiesRead (now (policies .entry)))) (length (now (rules .entry)))) (textOf (loadedOf (policiesRead (now (policies .entry))) .list)) (now (rules .entry)) r (now (report .entry)) (now (rules .exit)) (now (report .exit)) ⌝ }
+{
+    tell(texts::rules_from_policies(policies, rules), report)
+}
+
+// And policies from our rule list.
+#[no_mangle]
+pub extern "C" fn pitch_gate_policies_from_rules(
+    rules: &[u8],
+    policies: &mut [u8],
+    report: &mut [u64; 4],
+) -> u64
+    ensures { λ r. ⌜ Given (policiesFromReport (loadedOf (readLines (now (rules .entry)))) (length (now (policies .entry)))) (policiesText (rulesIn (now (rules .entry)))) (now (policies .entry)) r (now (report .entry)) (now (policies .exit)) (now (report .exit)) ⌝ }
+{
+    tell(texts::policies_from_rules(rules, policies), report)
+}
+
 // Steps over a saved state: rules, saved state and steps in, the answers and the new saved state out.
 #[no_mangle]
 pub extern "C" fn pitch_gate_run_steps(
@@ -144,5 +171,6 @@ fn text_number(text: Text) -> u64
         Text::Steps => 3,
         Text::OutputSpace => 4,
         Text::StateSpace => 5,
+        Text::Policies => 6,
     }
 }

@@ -4,6 +4,7 @@ pub mod Measuring
 pub mod Program
 pub mod Causes
 pub mod SavedRunning
+pub mod ListWriting
 pub mod SavedCauses
 pub mod HandingOver
 pub mod LineSums

@@ -23,7 +23,7 @@ use Rattle.state_text.specs.Saving.{savedText}
 use Rattle.state_text.proofs.RoundTrips as state
 use Rattle.state_text.proofs.Rows.{unequal}
 use Rattle.step_text.specs.Answers.{answersText}
-use Rattle.texts.specs.SavedRuns.{refusedIn, stateUnder, rulesFirst, loadTexts, rulesIn, refusedReport, writtenReport, outputReport, rulesCopyReport, savedReport, copyReport, SavedOutcome, savedOutcome, answersOf, stateOf, runReport}
+use Rattle.texts.specs.SavedRuns.{refusedIn, stateUnder, rulesFirst, loadTexts, rulesIn, refusedReport, writtenReport, outputReport, listReport, rulesCopyReport, savedReport, copyReport, SavedOutcome, savedOutcome, answersOf, stateOf, runReport}
 use Rattle.texts.specs.Causes.{RunsSaved, RunRefused, short-answers, short-state}
 use Rattle.texts.specs.declared.saved_runs.Text.{Text}
 use Rattle.texts.specs.declared.saved_runs.Text.the-variants as Text
@@ -66,7 +66,7 @@ module _ (rules : List ℕ) where
 
   pub rules-needed : (room place : ℕ) → rulesCopyReport (ruleText.loadedOf (ruleText.readLines rules)) room ≡ refusedReport Text.OutputSpace 18 place
       → (place ≡ length rules) × (room < place) × (rulesCopyReport (ruleText.loadedOf (ruleText.readLines rules)) place ≡ writtenReport (length rules) 0)
-  unfolding rulesCopyReport
+  unfolding listReport
   rules-needed room place e = go (eqb (read .number) 0) refl e
     where
       go : (b : Bool) → eqb (read .number) 0 ≡ b

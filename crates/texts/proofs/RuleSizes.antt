@@ -35,7 +35,7 @@ use Rattle.rule_text.proofs.Loaded.{loaded-zero, loaded-whole, loaded-list}
 use Rattle.rule_text.proofs.Lists.{reads-lines}
 use Rattle.rule_text.proofs.Back.{write-back, read-back, read-accepted}
 use Rattle.texts.specs.Sizes.{longestRule, longestRules, longestRights}
-use Rattle.texts.specs.SavedRuns.{refusedReport, outputReport, rulesCopyReport}
+use Rattle.texts.specs.SavedRuns.{refusedReport, outputReport, listReport, rulesCopyReport}
 use Rattle.texts.specs.declared.saved_runs.Text.the-variants as Text
 
 -- ---- a larger number has no fewer digits
@@ -260,7 +260,7 @@ longest-good = record {
 
 -- it is accepted, and a space that is shorter by a byte is too short for its copy
 pub rules-least : (room : ℕ) → room < 9085 → rulesCopyReport (ruleText.readRules (linesText longestRights longestRules)) room ≡ refusedReport Text.OutputSpace 18 9085
-unfolding rulesCopyReport outputReport
+unfolding listReport outputReport
 rules-least room h =
     let list = ruleText.listOf longestRights longestRules in
     let rights : list .rights ≡ longestRights = list-rights longestRights longestRules in

@@ -165,11 +165,11 @@ module _ (rules saved : List ℕ) where
 
 -- ---- a refusal writes nothing
 
-refused-lent : (r : Report) (text lent : List ℕ) → 0 < r .number → lent ≡ lentTo r text lent
+pub refused-lent : (r : Report) (text lent : List ℕ) → 0 < r .number → lent ≡ lentTo r text lent
 unfolding lentTo
 refused-lent r text lent some = rw (ne-eqb (r .number) 0 (λ z. omega (arith, some)))
 
-written-lent : (r : Report) (text lent lent′ : List ℕ) → r .number ≡ 0 → lent′ ≡ text ++ drop (length text) lent → lent′ ≡ lentTo r text lent
+pub written-lent : (r : Report) (text lent lent′ : List ℕ) → r .number ≡ 0 → lent′ ≡ text ++ drop (length text) lent → lent′ ≡ lentTo r text lent
 unfolding lentTo
 written-lent r text lent lent′ z e = e ∙ rw (eq-eqb (r .number) 0 z)
 
@@ -252,56 +252,6 @@ pub uncopied : {t : Texts} {text : Text} {number place : ℕ} (lent : List ℕ) 
     → (r ≡ copyReport t (length lent)) × (lent ≡ lentTo r (stateIn t) lent)
 unfolding copyReport
 uncopied {t} {text} {number} {place} lent {r} h e = (e ∙ rw (h .0), refused-lent r (stateIn t) lent (rw e (h .1)))
-
--- ---- a rule list copied
-
-module _ (rules : List ℕ) (read : LoadedRules) (e : read ≡ ruleText.loadedOf (ruleText.readLines rules)) (lent : List ℕ) where
-  abbrev RulesCopied : Report → List ℕ → Type 0
-  RulesCopied r lent′ = (r ≡ rulesCopyReport (ruleText.loadedOf (ruleText.readLines rules)) (length lent)) × (lent′ ≡ lentTo r (textOf (rulesIn rules)) lent)
-
-  pub rules-uncopied : (read .number ≡ 0 → ⊥) → {r : Report} → r ≡ refusedReport Text.Rules (read .number) (read .line) → RulesCopied r lent
-  unfolding rulesCopyReport
-  rules-uncopied n {r} q =
-      let some : 0 < read .number = ⊎-elim (λ z. absurd (n z)) (λ more. more) (zero-or-some (read .number)) in
-      (q ∙ rw (← e, ne-eqb (read .number) 0 n), refused-lent r (textOf (rulesIn rules)) lent (rw q some))
-
-  module _ (z : read .number ≡ 0) {lent′ : List ℕ} (left : lent′ ≡ lentAfterRules (read .list) lent) where
-    zero-read : ruleText.loadedOf (ruleText.readLines rules) .number ≡ 0
-    zero-read = sym (ap (λ (l : LoadedRules). l .number) e) ∙ z
-
-    as-output : rulesCopyReport (ruleText.loadedOf (ruleText.readLines rules)) (length lent) ≡ outputReport (textOf (rulesIn rules)) (length lent)
-    unfolding rulesCopyReport
-    as-output = rw (eq-eqb (ruleText.loadedOf (ruleText.readLines rules) .number) 0 zero-read)
-
-    there : {w : Written} → w ≡ writtenRules (read .list) lent → writtenRules (rulesIn rules) lent ≡ w
-    there f = sym (f ∙ ap (λ (l : LoadedRules). writtenRules (l .list) lent) e)
-
-    -- the copy has no room, and needs as many bytes as the list that was read
-    pub rules-short : (number : ℕ) → Refused number ≡ writtenRules (read .list) lent → {r : Report} → r ≡ refusedReport Text.OutputSpace 18 (length rules) → RulesCopied r lent′
-    unfolding outputReport
-    rules-short number f {r} q =
-        let short : length lent < length (textOf (rulesIn rules)) =
-        ⊎-elim (λ forty. clash (read-accepted rules) (refused-40 (rulesIn rules) lent .0 (there f ∙ ap Refused forty)))
-        (λ eighteen. refused-18 (rulesIn rules) lent .0 (there f ∙ ap Refused eighteen) .1)
-        (refused-number (rulesIn rules) lent number (there f)) in
-        let whole : textOf (rulesIn rules) ≡ rules = write-back rules (rulesIn rules) (loaded-list (ruleText.readLines rules) zero-read) in
-        let kept : lent′ ≡ lent = left ∙ ap (λ (l : LoadedRules). lentAfterRules (l .list) lent) e ∙ refused-leaves (rulesIn rules) lent number (there f) in (
-          q ∙ ap (λ (n : ℕ). refusedReport Text.OutputSpace 18 n) (ap length (sym whole)) ∙ sym (as-output ∙ rw (lt-leb (length (textOf (rulesIn rules))) (length lent) short)),
-          kept ∙ refused-lent r (textOf (rulesIn rules)) lent (rw q (omega arith)),
-        )
-
-    lent-rules : (n : ℕ) → writtenRules (rulesIn rules) lent ≡ Length n → lentAfterRules (rulesIn rules) lent ≡ textOf (rulesIn rules) ++ drop n lent
-    unfolding writtenRules lentAfterRules
-    lent-rules n h = lent-text (textOf (rulesIn rules)) lent (listAccepted (rulesIn rules)) n h
-
-    pub rules-copied : (n : ℕ) → Length n ≡ writtenRules (read .list) lent → {r : Report} → r ≡ writtenReport n 0 → RulesCopied r lent′
-    unfolding outputReport
-    rules-copied n f {r} q =
-        let fits = written-rules (rulesIn rules) lent n .0 (there f) in (
-          q ∙ ap (λ (m : ℕ). writtenReport m 0) (fits .2) ∙ sym (as-output ∙ rw (le-leb (length (textOf (rulesIn rules))) (length lent) (fits .1))),
-          written-lent r (textOf (rulesIn rules)) lent lent′ (rw q)
-              (left ∙ ap (λ (l : LoadedRules). lentAfterRules (l .list) lent) e ∙ lent-rules n (there f) ∙ ap (λ (m : ℕ). textOf (rulesIn rules) ++ drop m lent) (fits .2)),
-        )
 
 -- ---- the steps run
 

@@ -2,3 +2,4 @@ pub mod Response
 pub mod SavedRuns
 pub mod Causes
 pub mod Sizes
+pub mod Policies

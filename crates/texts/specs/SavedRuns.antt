@@ -75,8 +75,12 @@ savedReport text room = cond (leb (length text) room) (writtenReport 0 (length t
 
 -- ---- a rule list read and written again
 
-unfoldable pub rulesCopyReport : LoadedRules → ℕ → Report
-rulesCopyReport read room = cond (eqb (read .number) 0) (outputReport (textOf (read .list)) room) (refusedReport Text.Rules (read .number) (read .line))
+-- what was read of a text of rules, in either language: written as our text, or refused
+unfoldable pub listReport : Text → LoadedRules → ℕ → Report
+listReport source read room = cond (eqb (read .number) 0) (outputReport (textOf (read .list)) room) (refusedReport source (read .number) (read .line))
+
+abbrev pub rulesCopyReport : LoadedRules → ℕ → Report
+rulesCopyReport read room = listReport Text.Rules read room
 
 -- ---- a saved state read and written again
 

@@ -1,7 +1,10 @@
-// Texts in, texts out: the program's whole work on slices, and steps run over a saved state.
+// Texts in, texts out: the program's whole work on slices, steps run over a saved state, and rule lists from policies and back.
+mod policies;
 mod responses;
 mod saved_runs;
 
+pub use policies::policies_from_rules;
+pub use policies::rules_from_policies;
 pub use responses::MOST_BYTES;
 pub use responses::ROOM;
 pub use responses::respond;

@@ -28,6 +28,7 @@ pub enum Text {
     Steps,
     OutputSpace,
     StateSpace,
+    Policies,
 }
 
 // What two texts hold: number 0 with the list and the state; or the text that is refused, its number, its line (for 17 the rule), the list
@@ -41,7 +42,8 @@ pub struct LoadedTexts {
 }
 
 // Number 0 with the bytes of output and of state that were written; or the refusal with its text and place. The output is the answers to
-// steps or the copy of a rule list. The place is a line, for 17 a rule, for 18 the bytes that the space needs.
+// steps, the copy of a rule list, or a rule list in the other language. The place is a line, for 17 and 56 a rule, for 18 the bytes that the
+// space needs.
 pub struct Report {
     pub text: Text,
     pub number: u64,

@@ -1,6 +1,8 @@
 -- `texts::saved_runs::copy_rules` meets its contract. Assumes nothing.
 use mathlib.Core.Path.{sym, _∙_}
-use Rattle.texts.proofs.SavedRunning.{rules-uncopied, rules-short, rules-copied}
+use Rattle.rule_text.proofs.Back.{read-accepted}
+use Rattle.texts.proofs.ListWriting.{copied-length, list-refused, list-short, list-written}
+use Rattle.texts.specs.declared.saved_runs.Text.the-variants as Text
 use borrow.Author.Needs.{needs}
 use Rattle.texts.proofs.saved_runs.copy_rules.Statement.{statement}
 use Rattle.texts.proofs.saved_runs.copy_rules.Tie as tie
@@ -12,7 +14,7 @@ refused-report-requires : tie.Need-refused-report-requires
 refused-report-requires c κs = search needs
 
 returns : tie.Need-returns
-returns c = let read = c .before .before .before .read-rules in rules-uncopied _ (read .result) (read .ensures) _ (c .before .if1 .taken) (c .refused-report .ensures)
+returns c = let read = c .before .before .before .read-rules in list-refused (read .ensures) _ Text.Rules (c .before .if1 .taken) (c .refused-report .ensures)
 
 write-rules-requires : tie.Need-write-rules-requires
 write-rules-requires c κs = search needs
@@ -33,7 +35,8 @@ returns-2 : tie.Need-returns-2
 returns-2 c =
     let read = c .before .before .before .before .before .before .before .before .before .before .read-rules in
     let written = c .before .before .before .before .before .write-rules in
-    rules-short _ (read .result) (read .ensures) _ (c .before .before .before .before .before .before .before .before .if1 .left) (written .ensures .1) _ (sym (c .before .enum-told .given .1) ∙ written .ensures .0) (c .refused-report2 .ensures)
+    let zero = c .before .before .before .before .before .before .before .before .if1 .left in
+    list-short (read .ensures) _ Text.Rules (read-accepted _) zero (written .ensures .1) _ (sym (c .before .enum-told .given .1) ∙ written .ensures .0) (copied-length _ (read .ensures) zero) (c .refused-report2 .ensures)
 
 written-report-requires : tie.Need-written-report-requires
 written-report-requires c κs = search needs
@@ -45,7 +48,7 @@ returns-3 : tie.Need-returns-3
 returns-3 c =
     let read = c .before .before .before .before .before .before .before .before .before .before .before .read-rules in
     let written = c .before .before .before .before .before .before .write-rules in
-    rules-copied _ (read .result) (read .ensures) _ (c .before .before .before .before .before .before .before .before .before .if1 .left) (written .ensures .1) _ (sym (c .before .before .written .given .1) ∙ written .ensures .0) (c .written-report .ensures)
+    list-written (read .ensures) _ Text.Rules (read-accepted _) (c .before .before .before .before .before .before .before .before .before .if1 .left) (written .ensures .1) _ (sym (c .before .before .written .given .1) ∙ written .ensures .0) (c .written-report .ensures)
 
 pub copy-rules-spec : {M : Type 1} → statement M
 copy-rules-spec =
