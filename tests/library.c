@@ -1,4 +1,4 @@
-/* What library/include/pitch_gate.h says of pointers, versions and causes, tried on the archive.
+/* What library/include/pitch_gate.h says of pointers, versions, causes and policies, tried on the archive.
  *
  * Each call that is lent a text or a space of 0 bytes is made four times: with a pointer to a byte, with a null pointer, with a pointer
  * to a page that can be neither read nor written, and with a pointer to no page at all. All four must give the same number, the same report
@@ -23,6 +23,8 @@ static const struct text rules = TEXT("(rule 1 (needs 2 1))\n(rule 2 (apart 1 3)
 static const struct text state = TEXT("(now 0)\n(assigned 5 1)\n");
 static const struct text steps = TEXT("(assign 5 3)\n(assign 6 2)\n");
 static const struct text input = TEXT("(rule 1 (needs 2 1))\n(steps)\n(assign 5 1)\n");
+static const struct text policies = TEXT("PL1: maxUsers = 3 only-for-role r4;\nPL2: enable r4 if active r2 deactivation-dependency;\n");
+static const struct text policy_rules = TEXT("(rule 1 (max-users 4 3))\n(rule 2 (needs 4 2))\n");
 
 /* What a call gave: every byte is compared. */
 struct outcome {
@@ -38,6 +40,7 @@ static unsigned tried;
 static void make_empty_pointers(void);
 static void try_calls(void);
 static void try_runs(void);
+static void try_policies(void);
 static void compare(const char *call, const struct outcome outcomes[EMPTY_POINTERS]);
 static void expect(const char *what, int holds);
 
@@ -47,9 +50,14 @@ int main(void)
     expect("the version of the archive", pitch_gate_version() == PITCH_GATE_VERSION);
     expect("the cause of 13", strcmp(pitch_gate_cause(PITCH_GATE_SAME_TWICE), "same role or permission twice in a rule") == 0);
     expect("the cause of 53", strcmp(pitch_gate_cause(PITCH_GATE_ACTING_NOT_OPEN), "acting session not open") == 0);
+    expect("the cause of 55",
+           strcmp(pitch_gate_cause(PITCH_GATE_OUTSIDE_SUBSET), "policy line outside the subset of GEMRBAC-DSL") == 0);
+    expect("the cause of 56",
+           strcmp(pitch_gate_cause(PITCH_GATE_NO_POLICY_LINE), "rule or right line that has no policy line") == 0);
     expect("the cause of no number", strcmp(pitch_gate_cause(29), "a number that this header does not know") == 0);
     try_calls();
     try_runs();
+    try_policies();
     printf("%u calls with an empty text or space, each with %d pointers\n", tried, EMPTY_POINTERS);
     return EXIT_SUCCESS;
 }
@@ -86,18 +94,23 @@ static struct outcome fresh_outcome(void)
 /* Each call over one or two texts, with its text, its space or both empty. */
 static void try_calls(void)
 {
+    static const char *const names[] = {"respond",    "check_rules", "copy_rules",          "check_state",
+                                        "copy_state", "fresh_state", "rules_from_policies", "policies_from_rules"};
+    enum { CALLS = sizeof names / sizeof names[0] };
     for (unsigned choice = 0; choice < 8; choice++) {
         const struct text none = {NULL, 0};
         const struct text a_rules = choice & 1 ? none : rules;
         const struct text a_state = choice & 2 ? none : state;
         const struct text an_input = choice & 1 ? none : input;
+        const struct text some_policies = choice & 1 ? none : policies;
+        const struct text their_rules = choice & 1 ? none : policy_rules;
         const size_t room = choice & 4 ? 0 : 256;
-        struct outcome of[6][EMPTY_POINTERS];
+        struct outcome of[CALLS][EMPTY_POINTERS];
         for (int i = 0; i < EMPTY_POINTERS; i++) {
             uint8_t *const empty = empty_pointers[i];
             const uint8_t *const list = read_from(a_rules, empty);
             const uint8_t *const saved = read_from(a_state, empty);
-            for (int call = 0; call < 6; call++) {
+            for (int call = 0; call < CALLS; call++) {
                 of[call][i] = fresh_outcome();
             }
             of[0][i].number = pitch_gate_respond(read_from(an_input, empty), an_input.length,
@@ -109,9 +122,12 @@ static void try_calls(void)
             of[4][i].number = pitch_gate_copy_state(list, a_rules.length, saved, a_state.length,
                                                     write_to(of[4][i].first, room, empty), room, &of[4][i].report);
             of[5][i].number = pitch_gate_fresh_state(write_to(of[5][i].first, room, empty), room, &of[5][i].report);
+            of[6][i].number = pitch_gate_rules_from_policies(read_from(some_policies, empty), some_policies.length,
+                                                             write_to(of[6][i].first, room, empty), room, &of[6][i].report);
+            of[7][i].number = pitch_gate_policies_from_rules(read_from(their_rules, empty), their_rules.length,
+                                                             write_to(of[7][i].first, room, empty), room, &of[7][i].report);
         }
-        static const char *const names[] = {"respond", "check_rules", "copy_rules", "check_state", "copy_state", "fresh_state"};
-        for (int call = 0; call < 6; call++) {
+        for (int call = 0; call < CALLS; call++) {
             compare(names[call], of[call]);
         }
     }
@@ -138,6 +154,34 @@ static void try_runs(void)
         }
         compare("run_steps", of);
     }
+}
+
+static int is_text(const uint8_t *bytes, uint64_t length, struct text text)
+{
+    return length == text.length && memcmp(bytes, text.bytes, text.length) == 0;
+}
+
+/* Both journeys in spaces that are always long enough, and a refusal of each. */
+static void try_policies(void)
+{
+    static uint8_t list[PITCH_GATE_RULES_MOST];
+    static uint8_t lines[PITCH_GATE_POLICIES_MOST];
+    struct pitch_gate_report report;
+    uint64_t number;
+
+    number = pitch_gate_rules_from_policies((const uint8_t *)policies.bytes, policies.length, list, sizeof list, &report);
+    expect("rules from policies", number == PITCH_GATE_CALL_COMPLETED && report.state == 0);
+    expect("the rules of policies", is_text(list, report.output, policy_rules));
+    number = pitch_gate_policies_from_rules(list, policy_rules.length, lines, sizeof lines, &report);
+    expect("policies from rules", number == PITCH_GATE_CALL_COMPLETED && report.state == 0);
+    expect("the policies of rules", is_text(lines, report.output, policies));
+
+    number = pitch_gate_rules_from_policies((const uint8_t *)rules.bytes, rules.length, list, sizeof list, &report);
+    expect("a rule list read as policies", number == PITCH_GATE_OUTSIDE_SUBSET && report.text == PITCH_GATE_TEXT_POLICIES);
+    expect("the line and the lengths of 55", report.place == 1 && report.output == 0 && report.state == 0);
+    number = pitch_gate_policies_from_rules((const uint8_t *)rules.bytes, rules.length, lines, sizeof lines, &report);
+    expect("a rule without a policy line", number == PITCH_GATE_NO_POLICY_LINE && report.text == PITCH_GATE_TEXT_RULES);
+    expect("the rule and the lengths of 56", report.place == 2 && report.output == 0 && report.state == 0);
 }
 
 static void compare(const char *call, const struct outcome outcomes[EMPTY_POINTERS])

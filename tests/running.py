@@ -1,5 +1,5 @@
-"""What tests/vectors, tests/guide and tests/library share: the program, the library through library/rust/examples/handover.rs, C
-programs, and the tables."""
+"""What tests/vectors, tests/guide and tests/library share: the program, the library through library/rust/examples/handover.rs and
+policies.rs, C programs, and the tables."""
 
 import pathlib
 import re
@@ -39,10 +39,24 @@ def hand_over(rules, state, steps, spaces):
         files = [pathlib.Path(folder) / name for name in ("rules", "state", "steps", "next")]
         for file, text in zip(files, (rules, state, steps)):
             file.write_bytes(text)
-        ran = subprocess.run([EXAMPLES / "handover", *files, *spaces], capture_output=True)
-        if ran.returncode not in (0, 1):
-            sys.exit(f"handover ended with {ran.returncode}: {ran.stderr.decode()}")
-        return ran.stdout.decode(), files[3].read_text() if files[3].exists() else None
+        shown = run_example("handover", *files, *spaces)
+        return shown, files[3].read_text() if files[3].exists() else None
+
+
+def turn(journey, text, spaces):
+    """What policies prints of a text, by its journey to-rules or from-rules."""
+    with tempfile.NamedTemporaryFile() as file:
+        file.write(text)
+        file.flush()
+        return run_example("policies", journey, file.name, *spaces)
+
+
+def run_example(name, *arguments):
+    """What an example prints, whether it refuses its texts or not."""
+    ran = subprocess.run([EXAMPLES / name, *arguments], capture_output=True)
+    if ran.returncode not in (0, 1):
+        sys.exit(f"{name} ended with {ran.returncode}: {ran.stderr.decode()}")
+    return ran.stdout.decode()
 
 
 def numbers():

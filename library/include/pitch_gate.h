@@ -1,7 +1,7 @@
 /* The pitch access gate as a library: rule lists, saved states and steps in, answers and saved states out.
  *
- * FORMATS.md, beside the folder of this header, has every text: the forms of rules, saved states, steps and answers, the
- * ranges of their numbers, the order of saved lines, the epoch and the units. This header and that page are all that a
+ * FORMATS.md, beside the folder of this header, has every text: the forms of rules, policies, saved states, steps and answers,
+ * the ranges of their numbers, the order of saved lines, the epoch and the units. This header and that page are all that a
  * caller needs.
  *
  * A call decides nothing by itself
@@ -30,6 +30,8 @@
  *   - Where the rule list has right lines, `(by s ..)` names the session that acts. The library cannot see who sent a step: the
  *     hub writes the session of whoever asked, and lets nobody write another's. Under all six right lines nothing can be assigned
  *     from the fresh state: start from a saved state in which somebody has the rights.
+ *   - Policies, rules in the language GEMRBAC-DSL, are for the desk. It makes the rule list of them once, by
+ *     pitch_gate_rules_from_policies, and the hub gets that list: no other function reads policies.
  *
  * What a call promises, whatever bytes the texts hold
  *   - It ends, and is a function of the bytes that it is lent: no heap, no threads, no global state, no input or output.
@@ -70,7 +72,9 @@
  *   the same major version. Version 2.1 adds (move s x y e) and (place s x y e), a position known to e metres: both are 10 to
  *   2.0, so take 2.1 at every end before the first e is sent. Version 2.2 adds right lines, (right assign 30), and steps with an
  *   acting session, (by s (assign u r)), with the numbers 53 and 54: both lines are 10 to 2.1, so take 2.2 at every end before the
- *   first of them is sent.
+ *   first of them is sent. Version 2.3 adds pitch_gate_rules_from_policies and pitch_gate_policies_from_rules, with the numbers 55
+ *   and 56. No text of 2.2 changes its meaning, and nothing new is sent between ends: policies are for the desk, rule lists and
+ *   saved states stay as they are. So the desk alone may take 2.3.
  */
 #ifndef PITCH_GATE_H
 #define PITCH_GATE_H
@@ -82,7 +86,7 @@
 extern "C" {
 #endif
 
-#define PITCH_GATE_VERSION 20200 /* 2.2.0 */
+#define PITCH_GATE_VERSION 20300 /* 2.3.0 */
 
 /* The version of the archive that is linked, as PITCH_GATE_VERSION is of this header. */
 uint64_t pitch_gate_version(void);
@@ -118,7 +122,11 @@ enum pitch_gate_number {
     PITCH_GATE_TOO_MANY_LOANS = 51,            /* 32 loans run; a thirty-third saved loan */
     PITCH_GATE_LOAN_NOT_LATER = 52,            /* loan's time not later than now */
     PITCH_GATE_ACTING_NOT_OPEN = 53,           /* acting session not open */
-    PITCH_GATE_RIGHT_LACKING = 54              /* right lacking: no acting session, or no role active in it carries the permission */
+    PITCH_GATE_RIGHT_LACKING = 54,             /* right lacking: no acting session, or no role active in it carries the permission */
+
+    /* returned by the two functions on policies, and by no other */
+    PITCH_GATE_OUTSIDE_SUBSET = 55,            /* policy line outside the subset of GEMRBAC-DSL */
+    PITCH_GATE_NO_POLICY_LINE = 56             /* rule or right line that has no policy line */
 };
 
 /* The cause of a number in words, for people and logs. */
@@ -151,6 +159,8 @@ static inline const char *pitch_gate_cause(uint64_t number)
     case 52: return "loan's time not later than now";
     case 53: return "acting session not open";
     case 54: return "right lacking: no acting session, or no role active in it carries the permission";
+    case 55: return "policy line outside the subset of GEMRBAC-DSL";
+    case 56: return "rule or right line that has no policy line";
     default: return "a number that this header does not know";
     }
 }
@@ -161,15 +171,17 @@ enum pitch_gate_text {
     PITCH_GATE_TEXT_RULES = 1,        /* the rule list */
     PITCH_GATE_TEXT_STATE = 2,        /* the saved state */
     PITCH_GATE_TEXT_STEPS = 3,        /* the steps */
-    PITCH_GATE_TEXT_OUTPUT_SPACE = 4, /* the space lent for the answers, the output or the copy of a rule list */
-    PITCH_GATE_TEXT_STATE_SPACE = 5   /* the space lent for the saved state */
+    PITCH_GATE_TEXT_OUTPUT_SPACE = 4, /* the space lent for the answers, the output, a rule list or policies */
+    PITCH_GATE_TEXT_STATE_SPACE = 5,  /* the space lent for the saved state */
+    PITCH_GATE_TEXT_POLICIES = 6      /* the policies */
 };
 
 /* What each call fills in. */
 struct pitch_gate_report {
     uint64_t text;   /* what the refusal is about: one of pitch_gate_text */
-    uint64_t place;  /* the line of that text, from 1; for 17 the rule; for 18 the bytes that the space needs; else 0 */
-    uint64_t output; /* bytes written of the answers, the output or the copy of a rule list */
+    uint64_t place;  /* the line of that text, from 1; for 17 the rule; for 56 the rule, 0 for a right line; for 18 the bytes that the
+                        space needs; else 0 */
+    uint64_t output; /* bytes written of the answers, the output, a rule list or policies */
     uint64_t state;  /* bytes written of the saved state */
 };
 
@@ -183,10 +195,12 @@ _Static_assert(sizeof(struct pitch_gate_report) == 32, "the library fills four n
 #define PITCH_GATE_INPUT_MOST 65536
 
 /* No accepted text is longer. */
-#define PITCH_GATE_RULES_MOST 9085   /* a rule list: six right lines and 128 boxes */
-#define PITCH_GATE_STATE_MOST 997981 /* a saved state: every role assigned or lent, 32 of them lent, the longest times, users, positions and errors */
+#define PITCH_GATE_RULES_MOST 9085    /* a rule list: six right lines and 128 boxes */
+#define PITCH_GATE_POLICIES_MOST 7188 /* policies: 128 lines `PLn: enable r31 if active r30 deactivation-dependency;`, which is 128 times 54 bytes and the 276 digits of 1 to 128 */
+#define PITCH_GATE_STATE_MOST 997981  /* a saved state: every role assigned or lent, 32 of them lent, the longest times, users, positions and errors */
 
-/* Spaces that are always long enough; for a saved state PITCH_GATE_STATE_MOST, for a rule list PITCH_GATE_RULES_MOST. */
+/* Spaces that are always long enough; for a saved state PITCH_GATE_STATE_MOST, for a rule list PITCH_GATE_RULES_MOST, for policies
+ * PITCH_GATE_POLICIES_MOST. */
 #define PITCH_GATE_OUTPUT_MOST 131072 /* the output of pitch_gate_respond, the answers of pitch_gate_run_steps */
 #define PITCH_GATE_ANSWER_MOST 16     /* the answer to one step: `(no 30 128 128)` and its line feed */
 #define PITCH_GATE_FRESH_MOST 8       /* the fresh state: `(now 0)` and its line feed */
@@ -214,6 +228,20 @@ uint64_t pitch_gate_check_rules(const uint8_t *rules, size_t rules_length, struc
  * is shorter than the list. */
 uint64_t pitch_gate_copy_rules(const uint8_t *rules, size_t rules_length, uint8_t *copy, size_t copy_length,
                                struct pitch_gate_report *report);
+
+/* Reads policies and writes them as a rule list: line n becomes rule n. The policies of that list, by
+ * pitch_gate_policies_from_rules, are the same bytes.
+ * Refused, in this order: 55, 11, 12 or 13 of the policies with their first bad line; 18 where the space for the rules is too short
+ * (with PITCH_GATE_RULES_MOST bytes never). 55 stands in the place of 10. */
+uint64_t pitch_gate_rules_from_policies(const uint8_t *policies, size_t policies_length, uint8_t *rules, size_t rules_length,
+                                        struct pitch_gate_report *report);
+
+/* Reads a rule list and writes it as policies: rule n becomes line n. The rule list of those policies, by
+ * pitch_gate_rules_from_policies, is the same bytes.
+ * Refused, in this order: what pitch_gate_check_rules refuses; 56 with the lowest rule that has no policy line, or with 0 where the
+ * list has a right line; 18 where the space for the policies is too short (with PITCH_GATE_POLICIES_MOST bytes never). */
+uint64_t pitch_gate_policies_from_rules(const uint8_t *rules, size_t rules_length, uint8_t *policies, size_t policies_length,
+                                        struct pitch_gate_report *report);
 
 /* Reads a rule list and a saved state under it. Refused, in this order: 10 to 14 of the rules; 10, 11, 15, 16 or 51 of the saved
  * state with its first bad line; 17 with the lowest rule that the state breaks. */

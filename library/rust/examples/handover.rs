@@ -7,24 +7,20 @@
 //! file and ends with status 1. Two more numbers, ANSWERS-BYTES and STATE-BYTES, lend just that much space, as a controller
 //! may: then 18 can be the refusal.
 
-use pitch_gate::{Refusal, Text};
+mod common;
+
+use common::{main_of, read, refused, space, text_in, Ended};
+use pitch_gate::Refusal;
 use std::error::Error;
 use std::io::Write;
 use std::process::ExitCode;
-use std::{env, fs, io};
+use std::{fs, io};
 
 fn main() -> ExitCode {
-    let arguments: Vec<String> = env::args().skip(1).collect();
-    match run(&arguments) {
-        Ok(code) => code,
-        Err(error) => {
-            eprintln!("handover: {error}");
-            ExitCode::from(2)
-        }
-    }
+    main_of("handover", run)
 }
 
-fn run(arguments: &[String]) -> Result<ExitCode, Box<dyn Error>> {
+fn run(arguments: &[String]) -> Ended {
     let (files, spaces) = arguments.split_at(arguments.len().min(4));
     let [rules, state, steps, next] = files else {
         return Err("RULES STATE STEPS NEXT [ANSWERS-BYTES STATE-BYTES] are wanted".into());
@@ -36,11 +32,7 @@ fn run(arguments: &[String]) -> Result<ExitCode, Box<dyn Error>> {
             io::stdout().write_all(&answers)?;
             Ok(ExitCode::SUCCESS)
         }
-        Err(refusal) => {
-            println!("(refused {} {} {})", word(refusal.text), refusal.number, refusal.place);
-            eprintln!("{refusal}");
-            Ok(ExitCode::FAILURE)
-        }
+        Err(refusal) => Ok(refused(refusal)),
     }
 }
 
@@ -57,26 +49,9 @@ fn hand_over(rules: &[u8], state: &[u8], steps: &[u8], spaces: &[String]) -> Res
 
 /// Runs in spaces of these lengths, and sees that no byte is touched that the library promises to leave.
 fn in_spaces(rules: &[u8], state: &[u8], steps: &[u8], answers: usize, next: usize) -> Outcome {
-    const UNTOUCHED: u8 = 0xa5;
-    let (mut answers, mut next) = (vec![UNTOUCHED; answers], vec![UNTOUCHED; next]);
+    let (mut answers, mut next) = (space(answers), space(next));
     let ran = pitch_gate::run_steps_into(rules, state, steps, &mut answers, &mut next);
     let (answers_end, state_end) = ran.map_or((0, 0), |lengths| (lengths.answers, lengths.state));
-    let rest = answers.split_off(answers_end).into_iter().chain(next.split_off(state_end));
-    assert!(rest.into_iter().all(|byte| byte == UNTOUCHED), "a byte past the text was written");
-    ran.map(|_| (answers, next))
-}
-
-fn read(path: &str) -> Result<Vec<u8>, String> {
-    fs::read(path).map_err(|error| format!("{path}: {error}"))
-}
-
-fn word(text: Text) -> &'static str {
-    match text {
-        Text::Rules => "rules",
-        Text::State => "state",
-        Text::Steps => "steps",
-        Text::OutputSpace => "output-space",
-        Text::StateSpace => "state-space",
-        _ => "other",
-    }
+    let texts = (text_in(answers, answers_end), text_in(next, state_end));
+    ran.map(|_| texts)
 }

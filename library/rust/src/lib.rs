@@ -1,4 +1,5 @@
-//! The pitch access gate: rule lists, saved states and steps in, answers and saved states out.
+//! The pitch access gate: rule lists, saved states and steps in, answers and saved states out. Rule lists in GEMRBAC-DSL, here called
+//! policies, are turned into the gate's own and back.
 //!
 //! library/FORMATS.md has the texts, library/include/pitch_gate.h how a hub uses them: when it gives a clock, what it stores before it
 //! acts, what it sends after a restart. Every call is a function of the bytes that it is lent and of nothing else. What it answers is
@@ -20,6 +21,7 @@ let rules = b"(rule 1 (apart 1 3))\n";
 let ran = pitch_gate::run_steps(rules, &pitch_gate::fresh_state()?, b"(assign 5 1)\n(assign 5 3)\n")?;
 assert_eq!(ran.answers, b"(yes 1 0)\n(no 30 1 1)\n");
 assert_eq!(ran.state, b"(now 0)\n(assigned 5 1)\n");
+assert_eq!(pitch_gate::rules_from_policies(b"PL1: maxActiveRoles = 2;\n")?, b"(rule 1 (max-active 2))\n");
 # Ok::<(), pitch_gate::Refusal>(())
 ```"#
 )]
@@ -35,14 +37,14 @@ mod refusal;
 mod room;
 
 #[cfg(feature = "alloc")]
-pub use owned::{copy_rules, copy_state, fresh_state, respond, run_steps, Ran};
+pub use owned::{copy_rules, copy_state, fresh_state, policies_from_rules, respond, rules_from_policies, run_steps, Ran};
 pub use refusal::{cause, Refusal, Text};
-pub use room::{ANSWER_MOST, FRESH_MOST, INPUT_MOST, OUTPUT_MOST, RULES_MOST, STACK_MOST, STATE_MOST};
+pub use room::{ANSWER_MOST, FRESH_MOST, INPUT_MOST, OUTPUT_MOST, POLICIES_MOST, RULES_MOST, STACK_MOST, STATE_MOST};
 
-use raw::Report;
+use raw::{FromText, Report};
 
 /// The version that this crate was written for: 10,000 times the major version, 100 times the minor one, and the third number.
-pub const VERSION: u64 = 20_200;
+pub const VERSION: u64 = 20_300;
 
 /// The version of the library that is linked, as [`VERSION`] is of this crate.
 pub fn version() -> u64 {
@@ -115,13 +117,22 @@ pub fn check_rules(rules: &[u8]) -> Result<(), Refusal> {
 ///
 /// Refused after all that [`check_rules`] refuses: `copy` too short (18).
 pub fn copy_rules_into(rules: &[u8], copy: &mut [u8]) -> Result<usize, Refusal> {
-    let mut report = Report::default();
-    // SAFETY: each pointer and length is one slice's; the space is borrowed alone, so it overlaps nothing else lent.
-    let number = unsafe {
-        raw::pitch_gate_copy_rules(rules.as_ptr(), rules.len(), copy.as_mut_ptr(), copy.len(), &mut report)
-    };
-    report.refused(number)?;
-    Ok(report.output())
+    from_text(raw::pitch_gate_copy_rules, rules, copy)
+}
+
+/// Reads policies, writes them as a rule list and returns its length. [`policies_from_rules_into`] makes the same bytes of it again.
+///
+/// Refused, in this order: the first bad line of the policies (55, 11, 12, 13), `rules` too short (18; with [`RULES_MOST`] bytes never).
+pub fn rules_from_policies_into(policies: &[u8], rules: &mut [u8]) -> Result<usize, Refusal> {
+    from_text(raw::pitch_gate_rules_from_policies, policies, rules)
+}
+
+/// Reads a rule list, writes it as policies and returns their length. [`rules_from_policies_into`] makes the same bytes of them again.
+///
+/// Refused, in this order: the rule list (10 to 14), the lowest rule that has no policy line, or 0 where the list has a right line (56),
+/// `policies` too short (18; with [`POLICIES_MOST`] bytes never).
+pub fn policies_from_rules_into(rules: &[u8], policies: &mut [u8]) -> Result<usize, Refusal> {
+    from_text(raw::pitch_gate_policies_from_rules, rules, policies)
 }
 
 /// Whether a saved state is accepted under a rule list.
@@ -131,9 +142,8 @@ pub fn copy_rules_into(rules: &[u8], copy: &mut [u8]) -> Result<usize, Refusal> 
 pub fn check_state(rules: &[u8], state: &[u8]) -> Result<(), Refusal> {
     let mut report = Report::default();
     // SAFETY: each pointer and length is one slice's.
-    let number = unsafe {
-        raw::pitch_gate_check_state(rules.as_ptr(), rules.len(), state.as_ptr(), state.len(), &mut report)
-    };
+    let number =
+        unsafe { raw::pitch_gate_check_state(rules.as_ptr(), rules.len(), state.as_ptr(), state.len(), &mut report) };
     report.refused(number)
 }
 
@@ -161,11 +171,15 @@ pub fn copy_state_into(rules: &[u8], state: &[u8], copy: &mut [u8]) -> Result<us
 /// Writes what the program `gate` prints for an input of rules, `(steps)` and steps: an answer line for each step, or only
 /// `(bad number line)`. Returns its length. Refused: `output` too short (18; with [`OUTPUT_MOST`] bytes never).
 pub fn respond_into(input: &[u8], output: &mut [u8]) -> Result<usize, Refusal> {
+    from_text(raw::pitch_gate_respond, input, output)
+}
+
+/// Calls one of the library's functions that read a text and write another, and returns the length of what it wrote.
+fn from_text(call: FromText, text: &[u8], space: &mut [u8]) -> Result<usize, Refusal> {
     let mut report = Report::default();
-    // SAFETY: each pointer and length is one slice's; the space is borrowed alone, so it overlaps nothing else lent.
-    let number = unsafe {
-        raw::pitch_gate_respond(input.as_ptr(), input.len(), output.as_mut_ptr(), output.len(), &mut report)
-    };
+    // SAFETY: the call is the library's; each pointer and length is one slice's; the space is borrowed alone, so it overlaps nothing else
+    // lent.
+    let number = unsafe { call(text.as_ptr(), text.len(), space.as_mut_ptr(), space.len(), &mut report) };
     report.refused(number)?;
     Ok(report.output())
 }

@@ -1,8 +1,8 @@
 //! The calls that return what they write. Their spaces are long enough for any result, so that none is refused with 18.
 
 use crate::{
-    copy_rules_into, copy_state_into, fresh_state_into, respond_into, run_steps_into, Refusal, FRESH_MOST, OUTPUT_MOST,
-    RULES_MOST, STATE_MOST,
+    copy_rules_into, copy_state_into, fresh_state_into, policies_from_rules_into, respond_into, rules_from_policies_into,
+    run_steps_into, Refusal, FRESH_MOST, OUTPUT_MOST, POLICIES_MOST, RULES_MOST, STATE_MOST,
 };
 use alloc::vec;
 use alloc::vec::Vec;
@@ -31,6 +31,16 @@ pub fn fresh_state() -> Result<Vec<u8>, Refusal> {
 /// As [`copy_rules_into`].
 pub fn copy_rules(rules: &[u8]) -> Result<Vec<u8>, Refusal> {
     written(RULES_MOST, |copy| copy_rules_into(rules, copy))
+}
+
+/// As [`rules_from_policies_into`].
+pub fn rules_from_policies(policies: &[u8]) -> Result<Vec<u8>, Refusal> {
+    written(RULES_MOST, |rules| rules_from_policies_into(policies, rules))
+}
+
+/// As [`policies_from_rules_into`].
+pub fn policies_from_rules(rules: &[u8]) -> Result<Vec<u8>, Refusal> {
+    written(POLICIES_MOST, |policies| policies_from_rules_into(rules, policies))
 }
 
 /// As [`copy_state_into`].

@@ -31,6 +31,9 @@ impl Report {
     }
 }
 
+/// The functions that read one text and write another.
+pub type FromText = unsafe extern "C" fn(*const u8, usize, *mut u8, usize, *mut Report) -> u64;
+
 extern "C" {
     pub fn pitch_gate_version() -> u64;
 
@@ -49,6 +52,22 @@ extern "C" {
         rules_length: usize,
         copy: *mut u8,
         copy_length: usize,
+        report: *mut Report,
+    ) -> u64;
+
+    pub fn pitch_gate_rules_from_policies(
+        policies: *const u8,
+        policies_length: usize,
+        rules: *mut u8,
+        rules_length: usize,
+        report: *mut Report,
+    ) -> u64;
+
+    pub fn pitch_gate_policies_from_rules(
+        rules: *const u8,
+        rules_length: usize,
+        policies: *mut u8,
+        policies_length: usize,
         report: *mut Report,
     ) -> u64;
 

@@ -7,10 +7,11 @@ use core::fmt;
 #[derive(Clone, Copy, Debug, PartialEq, Eq)]
 #[non_exhaustive]
 pub struct Refusal {
-    /// 10 to 19, or 51: [`cause`] has each in words.
+    /// 10 to 19, 51, 55 or 56: [`cause`] has each in words.
     pub number: u64,
     pub text: Text,
-    /// The line of that text, from 1; for 17 the rule; for 18 the bytes that the space needs; 0 where there is none.
+    /// The line of that text, from 1; for 17 the rule; for 56 the rule, 0 for a right line; for 18 the bytes that the space needs; 0
+    /// where there is none.
     pub place: u64,
 }
 
@@ -21,10 +22,11 @@ pub enum Text {
     Rules,
     State,
     Steps,
-    /// The space lent for the answers, for the output of [`respond_into`](crate::respond_into), or for the copy of a rule list.
+    /// The space lent for the answers, for the output of [`respond_into`](crate::respond_into), for a rule list or for policies.
     OutputSpace,
     /// The space lent for the saved state.
     StateSpace,
+    Policies,
     /// One that a later library reports and this crate does not know.
     Other(u64),
 }
@@ -37,6 +39,7 @@ impl Text {
             3 => Text::Steps,
             4 => Text::OutputSpace,
             5 => Text::StateSpace,
+            6 => Text::Policies,
             other => Text::Other(other),
         }
     }
@@ -70,6 +73,8 @@ pub fn cause(number: u64) -> Option<&'static str> {
         52 => "loan's time not later than now",
         53 => "acting session not open",
         54 => "right lacking: no acting session, or no role active in it carries the permission",
+        55 => "policy line outside the subset of GEMRBAC-DSL",
+        56 => "rule or right line that has no policy line",
         _ => return None,
     };
     Some(cause)
@@ -83,6 +88,7 @@ impl fmt::Display for Text {
             Text::Steps => formatter.write_str("the steps"),
             Text::OutputSpace => formatter.write_str("the space for the output"),
             Text::StateSpace => formatter.write_str("the space for the saved state"),
+            Text::Policies => formatter.write_str("the policies"),
             Text::Other(text) => write!(formatter, "text {text}"),
         }
     }
@@ -95,7 +101,7 @@ impl fmt::Display for Refusal {
         write!(formatter, "refused with {number} in {text}")?;
         match (number, place) {
             (_, 0) => {}
-            (17, rule) => write!(formatter, ", rule {rule}")?,
+            (17 | 56, rule) => write!(formatter, ", rule {rule}")?,
             (18, bytes) => write!(formatter, ", which needs {bytes} bytes")?,
             (_, line) => write!(formatter, ", line {line}")?,
         }

@@ -26,14 +26,22 @@ pub const STATE_MOST: usize = "(now 3155759999)\n".len()
 
 /// Bytes that hold any rule list: a right line of each kind, and 128 rules, each on the outside of a box at the corner of the grid whose
 /// coordinates are longest.
-pub const RULES_MOST: usize = RIGHT_LINES.len()
-    + RULES * "(rule  (at 31 (outside (box -1000000 -1000000 -1000000 -1000000))))\n".len()
-    + digits_below(RULES + 1)
-    - "0".len();
+pub const RULES_MOST: usize =
+    RIGHT_LINES.len() + numbered("(rule  (at 31 (outside (box -1000000 -1000000 -1000000 -1000000))))\n");
 
 /// The six right lines, with the longest permissions.
 const RIGHT_LINES: &str =
     "(right assign 31)\n(right withdraw 31)\n(right grant 31)\n(right take 31)\n(right lend 31)\n(right recall 31)\n";
+
+/// Bytes that hold any policies: 128 lines of the longest form.
+pub const POLICIES_MOST: usize = numbered(DEPENDENCY);
+
+/// The longest policy line, with two roles of two digits. The other four are shorter.
+const DEPENDENCY: &str = "PL: enable r31 if active r30 deactivation-dependency;\n";
+const _: () = assert!("PL: assign-role r31 prerequisite r30;\n".len() < DEPENDENCY.len());
+const _: () = assert!("PL: maxUsers = 64 only-for-role r31;\n".len() < DEPENDENCY.len());
+const _: () = assert!("PL: maxRoles-User = 32;\n".len() < DEPENDENCY.len());
+const _: () = assert!("PL: maxActiveRoles = 32;\n".len() < DEPENDENCY.len());
 
 /// Bytes of the fresh state.
 pub const FRESH_MOST: usize = "(now 0)\n".len();
@@ -65,6 +73,11 @@ const fn every(form: &str, counts: &[usize]) -> usize {
         index += 1;
     }
     bytes
+}
+
+/// The bytes of 128 lines of a form, numbered from 1; the form is given without the number.
+const fn numbered(form: &str) -> usize {
+    RULES * form.len() + digits_below(RULES + 1) - "0".len()
 }
 
 /// The digits of all numbers below `count`, which is at most 1000.

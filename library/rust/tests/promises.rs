@@ -17,10 +17,34 @@ const RIGHTS: &[u8] =
 const FRESH: &[u8] = b"(now 0)\n";
 const STATE: &[u8] = b"(now 0)\n(assigned 5 1)\n";
 const BREAKING_STATE: &[u8] = b"(now 0)\n(assigned 5 1)\n(assigned 5 3)\n";
+/// The five lines of the subset, and the rules that they are.
+const POLICIES: &[u8] =
+    b"PL1: assign-role r4 prerequisite r2;\nPL2: maxUsers = 3 only-for-role r4;\nPL3: maxRoles-User = 5;\n\
+    PL4: maxActiveRoles = 2;\nPL5: enable r4 if active r2 deactivation-dependency;\n";
+const POLICY_RULES: &[u8] =
+    b"(rule 1 (before 4 2))\n(rule 2 (max-users 4 3))\n(rule 3 (max-roles 5))\n(rule 4 (max-active 2))\n(rule 5 (needs 4 2))\n";
 const UNTOUCHED: u8 = 0xa5;
+
+/// Rule lists that are refused, with the number and the line.
+const REFUSED_RULES: [(&[u8], u64, u64); 11] = [
+    (b"(rule 1 (needs 2 1))", 10, 1),
+    (b"(right clock 3)\n", 10, 1),
+    (b"(rule 1 (needs 2 32))\n", 11, 1),
+    (b"(right assign 32)\n", 11, 1),
+    (b"(rule 1 (needs 2 1))\n(rule 3 (apart 1 3))\n", 12, 2),
+    (b"(right assign 3)\n(right assign 4)\n", 12, 2),
+    (b"(right take 3)\n(right grant 3)\n", 12, 2),
+    (b"(right assign 3)\n(rule 1 (needs 2 1))\n(right take 3)\n", 12, 3),
+    (b"(right assign 3)\n(rule 2 (needs 2 1))\n", 12, 2),
+    (BAD_RULES, 13, 2),
+    (b"(rule 1 (during 2 (dates 20230229 20230301)))\n", 14, 1),
+];
 
 /// A refusal's number, text and place.
 type Told = (u64, Text, u64);
+
+/// A function that reads one text and writes another.
+type FromText = fn(&[u8], &mut [u8]) -> Result<usize, Refusal>;
 
 fn told<T>(result: Result<T, Refusal>) -> Result<T, Told> {
     result.map_err(|refusal| (refusal.number, refusal.text, refusal.place))
@@ -41,6 +65,25 @@ fn space(length: usize) -> Vec<u8> {
 
 fn is_untouched(space: &[u8]) -> bool {
     space.iter().all(|byte| *byte == UNTOUCHED)
+}
+
+/// The call is refused so in a space of this length, and every byte of it stays.
+fn refuses(call: FromText, text: &[u8], length: usize, expected: Told) {
+    let mut lent = space(length);
+    assert_eq!(told(call(text, &mut lent)), Err(expected), "{}", text.escape_ascii());
+    assert!(is_untouched(&lent));
+}
+
+/// The call writes just this text, and leaves what is past it. A space of each smaller length is 18 with the length that is needed.
+fn writes(call: FromText, text: &[u8], expected: &[u8]) {
+    for more in [0, 3] {
+        let mut written = space(expected.len() + more);
+        assert_eq!(told(call(text, &mut written)), Ok(expected.len()));
+        assert!(written.strip_prefix(expected).is_some_and(is_untouched), "{}", written.escape_ascii());
+    }
+    for length in 0..expected.len() {
+        refuses(call, text, length, (18, Text::OutputSpace, expected.len() as u64));
+    }
 }
 
 /// Rules and steps of an input as the program takes it.
@@ -64,21 +107,8 @@ fn respond_writes_a_bad_input_as_its_output() {
 }
 
 #[test]
-fn respond_into_leaves_what_is_past_the_output() {
-    let mut output = space(LISTING_ANSWERS.len() + 3);
-    assert_eq!(told(respond_into(LISTING, &mut output)), Ok(LISTING_ANSWERS.len()));
-    assert_eq!(output.strip_prefix(LISTING_ANSWERS), Some(&[UNTOUCHED; 3][..]));
-}
-
-#[test]
-fn respond_into_refuses_a_space_that_is_too_short() {
-    let mut exact = space(LISTING_ANSWERS.len());
-    assert_eq!(told(respond_into(LISTING, &mut exact)), Ok(LISTING_ANSWERS.len()));
-    for length in 0..LISTING_ANSWERS.len() {
-        let mut short = space(length);
-        assert_eq!(told(respond_into(LISTING, &mut short)), Err((18, Text::OutputSpace, LISTING_ANSWERS.len() as u64)));
-        assert!(is_untouched(&short));
-    }
+fn respond_into_writes_the_output_and_no_more() {
+    writes(respond_into, LISTING, LISTING_ANSWERS);
 }
 
 #[test]
@@ -86,20 +116,7 @@ fn check_rules_accepts_and_refuses() {
     assert_eq!(told(check_rules(b"")), Ok(()));
     assert_eq!(told(check_rules(RULES)), Ok(()));
     assert_eq!(told(check_rules(RIGHTS)), Ok(()));
-    let refused: [(&[u8], u64, u64); 11] = [
-        (b"(rule 1 (needs 2 1))", 10, 1),
-        (b"(right clock 3)\n", 10, 1),
-        (b"(rule 1 (needs 2 32))\n", 11, 1),
-        (b"(right assign 32)\n", 11, 1),
-        (b"(rule 1 (needs 2 1))\n(rule 3 (apart 1 3))\n", 12, 2),
-        (b"(right assign 3)\n(right assign 4)\n", 12, 2),
-        (b"(right take 3)\n(right grant 3)\n", 12, 2),
-        (b"(right assign 3)\n(rule 1 (needs 2 1))\n(right take 3)\n", 12, 3),
-        (b"(right assign 3)\n(rule 2 (needs 2 1))\n", 12, 2),
-        (BAD_RULES, 13, 2),
-        (b"(rule 1 (during 2 (dates 20230229 20230301)))\n", 14, 1),
-    ];
-    for (rules, number, line) in refused {
+    for (rules, number, line) in REFUSED_RULES {
         assert_eq!(told(check_rules(rules)), Err((number, Text::Rules, line)));
     }
 }
@@ -110,22 +127,13 @@ fn copy_rules_writes_the_same_bytes() {
     assert_eq!(copy_rules(RULES).unwrap(), RULES);
     assert_eq!(copy_rules(RIGHTS).unwrap(), RIGHTS);
     assert_eq!(copy_rules(&[RIGHTS, RULES].concat()).unwrap(), [RIGHTS, RULES].concat());
-    let mut copy = space(RULES.len() + 3);
-    assert_eq!(told(copy_rules_into(RULES, &mut copy)), Ok(RULES.len()));
-    assert_eq!(copy.strip_prefix(RULES), Some(&[UNTOUCHED; 3][..]));
+    writes(copy_rules_into, RULES, RULES);
 }
 
 #[test]
 fn copy_rules_into_leaves_every_byte_on_a_refusal() {
-    let refused: [(&[u8], usize, Told); 3] = [
-        (BAD_RULES, BAD_RULES.len(), (13, Text::Rules, 2)),
-        (BAD_RULES, 0, (13, Text::Rules, 2)),
-        (RULES, RULES.len() - 1, (18, Text::OutputSpace, RULES.len() as u64)),
-    ];
-    for (rules, length, expected) in refused {
-        let mut copy = space(length);
-        assert_eq!(told(copy_rules_into(rules, &mut copy)), Err(expected));
-        assert!(is_untouched(&copy));
+    for length in [BAD_RULES.len(), 0] {
+        refuses(copy_rules_into, BAD_RULES, length, (13, Text::Rules, 2));
     }
 }
 
@@ -157,8 +165,171 @@ fn the_longest_rule_list_fills_its_space() {
     let rules: String = rights + &(1..=128).map(rule).collect::<String>();
     assert_eq!(rules.len(), RULES_MOST);
     assert_eq!(copy_rules(rules.as_bytes()).unwrap(), rules.as_bytes());
-    let mut short = space(RULES_MOST - 1);
-    assert_eq!(told(copy_rules_into(rules.as_bytes(), &mut short)), Err((18, Text::OutputSpace, RULES_MOST as u64)));
+    refuses(copy_rules_into, rules.as_bytes(), RULES_MOST - 1, (18, Text::OutputSpace, RULES_MOST as u64));
+}
+
+#[test]
+fn policies_and_rules_come_back_byte_for_byte() {
+    let pairs: [(&[u8], &[u8]); 6] = [
+        (b"", b""),
+        (POLICIES, POLICY_RULES),
+        (
+            b"PL1: assign-role r0 prerequisite r31;\nPL2: assign-role r31 prerequisite r0;\n",
+            b"(rule 1 (before 0 31))\n(rule 2 (before 31 0))\n",
+        ),
+        (
+            b"PL1: maxUsers = 0 only-for-role r31;\nPL2: maxUsers = 64 only-for-role r0;\n",
+            b"(rule 1 (max-users 31 0))\n(rule 2 (max-users 0 64))\n",
+        ),
+        (
+            b"PL1: maxActiveRoles = 32;\nPL2: maxRoles-User = 32;\nPL3: maxActiveRoles = 0;\nPL4: maxRoles-User = 0;\n",
+            b"(rule 1 (max-active 32))\n(rule 2 (max-roles 32))\n(rule 3 (max-active 0))\n(rule 4 (max-roles 0))\n",
+        ),
+        (
+            b"PL1: enable r31 if active r0 deactivation-dependency;\nPL2: enable r31 if active r0 deactivation-dependency;\n",
+            b"(rule 1 (needs 31 0))\n(rule 2 (needs 31 0))\n",
+        ),
+    ];
+    for (policies, rules) in pairs {
+        assert_eq!(rules_from_policies(policies).unwrap(), rules);
+        assert_eq!(policies_from_rules(rules).unwrap(), policies);
+        writes(rules_from_policies_into, policies, rules);
+        writes(policies_from_rules_into, rules, policies);
+        assert_eq!(told(check_rules(rules)), Ok(()));
+    }
+}
+
+#[test]
+fn the_longest_policies_fill_their_space() {
+    let policies: String =
+        (1..=128).map(|number| format!("PL{number}: enable r31 if active r30 deactivation-dependency;\n")).collect();
+    let rules: String = (1..=128).map(|number| format!("(rule {number} (needs 31 30))\n")).collect();
+    assert_eq!(policies.len(), POLICIES_MOST);
+    assert_eq!(rules_from_policies(policies.as_bytes()).unwrap(), rules.as_bytes());
+    assert_eq!(policies_from_rules(rules.as_bytes()).unwrap(), policies.as_bytes());
+    let short = (18, Text::OutputSpace, POLICIES_MOST as u64);
+    refuses(policies_from_rules_into, rules.as_bytes(), POLICIES_MOST - 1, short);
+    let one_more = policies + "PL129: maxActiveRoles = 2;\n";
+    refuses(rules_from_policies_into, one_more.as_bytes(), RULES_MOST, (11, Text::Policies, 129));
+}
+
+#[test]
+fn policies_are_refused_with_their_first_bad_line() {
+    let refused: [(&[u8], u64, u64); 16] = [
+        (b"PL1: maxActiveRoles = 2;\nPL2: maxActiveRoles = 2\n", 55, 2),
+        (b"PL1: maxActiveRoles = 2;\nPL2: maxActiveRoles = 2;", 55, 2),
+        (b"PL0: maxActiveRoles = 2;\n", 11, 1),
+        (b"PL1: maxActiveRoles = 33;\n", 11, 1),
+        (b"PL1: maxActiveRoles = 9999999999;\n", 11, 1),
+        (b"PL1: maxActiveRoles = 2;\nPL2: maxRoles-User = 33;\n", 11, 2),
+        (b"PL1: maxUsers = 65 only-for-role r4;\n", 11, 1),
+        (b"PL1: maxUsers = 3 only-for-role r32;\n", 11, 1),
+        (b"PL1: assign-role r32 prerequisite r2;\n", 11, 1),
+        (b"PL1: enable r4 if active r32 deactivation-dependency;\n", 11, 1),
+        (b"PL2: maxActiveRoles = 2;\n", 12, 1),
+        (b"PL1: maxActiveRoles = 2;\nPL1: maxActiveRoles = 2;\n", 12, 2),
+        (b"PL1: maxActiveRoles = 2;\nPL3: maxActiveRoles = 2;\n", 12, 2),
+        (b"PL1: assign-role r4 prerequisite r4;\n", 13, 1),
+        (b"PL1: maxActiveRoles = 2;\nPL2: enable r4 if active r4 deactivation-dependency;\n", 13, 2),
+        (b"PL1: assign-role r4 prerequisite r4;\nPL1\n", 13, 1),
+    ];
+    for (policies, number, line) in refused {
+        for length in [RULES_MOST, 0] {
+            refuses(rules_from_policies_into, policies, length, (number, Text::Policies, line));
+        }
+    }
+}
+
+/// Of one line 55 comes first, then 11, 12 and 13.
+#[test]
+fn a_policy_line_is_refused_in_order() {
+    let refused: [(&[u8], u64); 4] = [
+        (b"PL0: assign-role r32 prerequisite r32\n", 55),
+        (b"PL2: assign-role r32 prerequisite r32;\n", 11),
+        (b"PL129: assign-role r4 prerequisite r4;\n", 11),
+        (b"PL2: assign-role r4 prerequisite r4;\n", 12),
+    ];
+    for (policies, number) in refused {
+        refuses(rules_from_policies_into, policies, RULES_MOST, (number, Text::Policies, 1));
+    }
+}
+
+#[test]
+fn a_line_outside_the_subset_is_refused() {
+    let outside: [&str; 31] = [
+        "",
+        "PL1:",
+        "(rule 1 (max-active 2))",
+        "(right assign 3)",
+        "policies:",
+        "roles: r2, r4;",
+        "PL1: assign-role trainee prerequisite participant;",
+        "PL1: assign-permission p4 prerequisite p2;",
+        "PL1: maxUsers = 3;",
+        "PL1: maxUsers = 3 only-for-role 4;",
+        "PL1: maxPermissions = 3 only-for-role r4;",
+        "PL1: maxRoles-User = 5 only-for-user u5;",
+        "PL1: maxRoles-Permission = 5;",
+        "PL1: enable r4 if active r2;",
+        "PL1: enable r4 if active r2, after 2 hour deactivation-dependency;",
+        "PL1: conflicting-roles-assignment r4, r2;",
+        "maxActiveRoles = 2;",
+        "P1: maxActiveRoles = 2;",
+        "pl1: maxActiveRoles = 2;",
+        "PL 1: maxActiveRoles = 2;",
+        "PL01: maxActiveRoles = 2;",
+        "PL1: maxActiveRoles = 02;",
+        "PL1: maxActiveRoles = -2;",
+        "PL1: maxActiveRoles = 10000000000;",
+        "PL1: maxActiveRoles=2;",
+        "PL1:  maxActiveRoles = 2;",
+        "PL1: maxActiveRoles = 2 ;",
+        "PL1: maxActiveRoles = 2; ",
+        " PL1: maxActiveRoles = 2;",
+        "PL1: maxActiveRoles = 2;\r",
+        "PL1: maxActiveRoles = 2; PL2: maxActiveRoles = 2;",
+    ];
+    for line in outside {
+        let policies = format!("{line}\n");
+        refuses(rules_from_policies_into, policies.as_bytes(), RULES_MOST, (55, Text::Policies, 1));
+    }
+}
+
+#[test]
+fn a_refused_rule_list_is_written_as_no_policies() {
+    for (rules, number, line) in REFUSED_RULES {
+        refuses(policies_from_rules_into, rules, POLICIES_MOST, (number, Text::Rules, line));
+    }
+    let bad_after_a_rule_without_a_line = b"(rule 1 (apart 1 3))\n(rule 2 (needs 3 3))\n";
+    refuses(policies_from_rules_into, bad_after_a_rule_without_a_line, 0, (13, Text::Rules, 2));
+}
+
+#[test]
+fn a_rule_without_a_policy_line_is_refused() {
+    let families = [
+        "max-permissions 4 1",
+        "apart 2 5",
+        "apart-active 2 5",
+        "during 1 (week 1 5 0700 1900)",
+        "at 1 (inside (circle 4200 -1300 150))",
+        "two-hands 1 2",
+        "same-hand 1 2",
+    ];
+    for family in families {
+        let rules = format!("(rule 1 (needs 2 1))\n(rule 2 ({family}))\n(rule 3 (apart 1 3))\n");
+        for length in [POLICIES_MOST, 0] {
+            refuses(policies_from_rules_into, rules.as_bytes(), length, (56, Text::Rules, 2));
+        }
+    }
+}
+
+#[test]
+fn a_right_line_comes_before_any_rule_without_a_policy_line() {
+    for rules in [b"", POLICY_RULES, RULES] {
+        for rights in [RIGHTS, b"(right recall 3)\n"] {
+            refuses(policies_from_rules_into, &[rights, rules].concat(), 0, (56, Text::Rules, 0));
+        }
+    }
 }
 
 #[test]
@@ -451,6 +622,18 @@ fn a_refusal_names_its_cause() {
         "refused with 12 in the rule list, line 2: rule number not the next; right line second of its kind, out of order or after a rule"
     );
     assert_eq!(
+        rules_from_policies(b"PL1: maxUsers = 3;\n").unwrap_err().to_string(),
+        "refused with 55 in the policies, line 1: policy line outside the subset of GEMRBAC-DSL"
+    );
+    assert_eq!(
+        policies_from_rules(RULES).unwrap_err().to_string(),
+        "refused with 56 in the rule list, rule 2: rule or right line that has no policy line"
+    );
+    assert_eq!(
+        policies_from_rules(RIGHTS).unwrap_err().to_string(),
+        "refused with 56 in the rule list: rule or right line that has no policy line"
+    );
+    assert_eq!(
         run_steps(RULES, STATE, b"(revoke 5 1)\n").unwrap_err().to_string(),
         "refused with 10 in the steps, line 1: line is no form of its text"
     );
@@ -459,7 +642,7 @@ fn a_refusal_names_its_cause() {
 #[test]
 fn each_number_has_its_own_cause() {
     let causes: Vec<&str> = (0..100).filter_map(cause).collect();
-    assert_eq!(causes.len(), 25);
+    assert_eq!(causes.len(), 27);
     assert!(causes.iter().all(|one| causes.iter().filter(|other| *other == one).count() == 1));
     assert_eq!((cause(0), cause(29), cause(40)), (None, None, None));
 }

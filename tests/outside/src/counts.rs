@@ -11,6 +11,10 @@ use crate::plain::rules::{Rule, RuleList};
 use crate::plain::selected::selects;
 use crate::plain::state::State;
 use crate::plain::steps::{Action, Step};
+use crate::policy_kinds::{
+    damage_kind, policy_kinds_to_meet, read_kinds, refused_kinds, without_a_line_kinds,
+    written_kinds,
+};
 use crate::right_kinds::{
     acting_kinds, list_kinds, own_step_kind, refused_acting_kind, refused_right_kind,
     right_kinds_to_meet,
@@ -62,7 +66,7 @@ const ACTIVATED: &str = "activate granted";
 const FAMILIES_OF_HELD_ROLES: [&str; 3] = ["max-users", "max-roles", "apart"];
 const FAMILIES_OF_PLACES: [&str; 4] =
     ["at inside circle", "at inside box", "at outside circle", "at outside box"];
-const FAMILIES: [&str; 19] = [
+pub const FAMILIES: [&str; 19] = [
     "before",
     "max-users",
     "max-roles",
@@ -110,10 +114,11 @@ pub const STATE: &str = "the saved state";
 pub const STEPS_TEXT: &str = "the steps";
 pub const OUTPUT_SPACE: &str = "the space for the output";
 pub const STATE_SPACE: &str = "the space for the state";
+pub const POLICIES: &str = "the policies";
 const NOTHING: &str = "";
 
 /// The refusals of each call, by the text that they are about.
-const CALLS: [(&str, &str, &[u64]); 24] = [
+const CALLS: [(&str, &str, &[u64]); 30] = [
     ("respond", NOTHING, &[NOT_REFUSED]),
     ("respond", INPUT, &[10, 11, 12, 13, 14, 19]),
     ("respond", OUTPUT_SPACE, &[18]),
@@ -138,6 +143,12 @@ const CALLS: [(&str, &str, &[u64]); 24] = [
     ("run_steps", OUTPUT_SPACE, &[18]),
     ("run_steps", STATE_SPACE, &[18]),
     ("run_steps of a piece", NOTHING, &[NOT_REFUSED]),
+    ("rules_from_policies", NOTHING, &[NOT_REFUSED]),
+    ("rules_from_policies", POLICIES, &[55, 11, 12, 13]),
+    ("rules_from_policies", OUTPUT_SPACE, &[18]),
+    ("policies_from_rules", NOTHING, &[NOT_REFUSED]),
+    ("policies_from_rules", RULES, &[10, 11, 12, 13, 14, 56]),
+    ("policies_from_rules", OUTPUT_SPACE, &[18]),
 ];
 
 impl Counts {
@@ -166,6 +177,26 @@ impl Counts {
         self.add_all(refused_line_kind(line, number));
         self.add_all(refused_right_kind(before, line, number));
         self.add_all(refused_acting_kind(line));
+    }
+
+    pub fn policies_read(&mut self, list: &RuleList) {
+        self.add_all(read_kinds(list));
+    }
+
+    pub fn policies_refused(&mut self, policies: &[u8], place: u64, number: u64) {
+        self.add_all(refused_kinds(policies, place, number));
+    }
+
+    /// A list written as policies, or refused with 56 and a rule.
+    pub fn policies_written(&mut self, list: &RuleList, refused: Option<u64>) {
+        match refused {
+            None => self.add_all(written_kinds(list)),
+            Some(rule) => self.add_all(without_a_line_kinds(list, rule)),
+        }
+    }
+
+    pub fn policies_damaged(&mut self, damage: &'static str, number: u64) {
+        self.add(damage_kind(damage, number));
     }
 
     /// A saved state that was read under the rules.
@@ -372,6 +403,7 @@ fn kinds_to_meet() -> Vec<Kind> {
     }
     kinds.extend(place_kinds_to_meet());
     kinds.extend(right_kinds_to_meet());
+    kinds.extend(policy_kinds_to_meet());
     kinds.extend(DAMAGES.iter().map(|&(damage, _)| (DAMAGED, damage, 0)));
     kinds
 }

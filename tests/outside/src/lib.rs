@@ -1,4 +1,4 @@
-//! A second reading of the scope document and of requests 2026-01 to 2026-05: a gate in plain
+//! A second reading of the scope document and of requests 2026-01 to 2026-06: a gate in plain
 //! Rust, which takes nothing from the proved one, and what is needed to compare the two.
 
 pub mod cases;
@@ -7,5 +7,6 @@ pub mod counts;
 pub mod generate;
 pub mod place_kinds;
 pub mod plain;
+pub mod policy_kinds;
 pub mod right_kinds;
 pub mod vectors;

@@ -11,7 +11,8 @@ fn a_state_handed_over_gives_the_same_as_one_run() {
     let (rules, steps) = parts(DAY).unwrap();
     let fresh = fresh_state().unwrap();
     let whole = run_steps(rules, &fresh, steps).unwrap();
-    let cuts = steps.iter().enumerate().filter(|(_, byte)| **byte == b'\n').map(|(place, _)| place + 1);
+    let cuts =
+        steps.iter().enumerate().filter(|(_, byte)| **byte == b'\n').map(|(place, _)| place + 1);
     for cut in cuts {
         let first = run_steps(rules, &fresh, &steps[..cut]).unwrap();
         let second = run_steps(rules, &first.state, &steps[cut..]).unwrap();
@@ -25,7 +26,8 @@ fn a_state_handed_over_gives_the_same_as_one_run() {
 fn a_saved_text_that_is_cut_can_be_accepted() {
     let (rules, steps) = parts(DAY).unwrap();
     let state = run_steps(rules, &fresh_state().unwrap(), steps).unwrap().state;
-    let cuts = state.iter().enumerate().filter(|(_, byte)| **byte == b'\n').map(|(place, _)| place + 1);
+    let cuts =
+        state.iter().enumerate().filter(|(_, byte)| **byte == b'\n').map(|(place, _)| place + 1);
     let accepted = cuts.filter(|cut| check_state(b"", &state[..*cut]).is_ok()).count();
     assert_eq!(accepted, state.iter().filter(|byte| **byte == b'\n').count());
 }
@@ -35,7 +37,8 @@ fn a_saved_text_that_is_cut_can_be_accepted() {
 fn every_vector_comes_back_byte_for_byte() {
     let mut lists: Vec<Vec<u8>> = vec![];
     for path in vectors("handover", "rules") {
-        let (rules, state) = (std::fs::read(&path).unwrap(), std::fs::read(path.with_extension("state")).unwrap());
+        let (rules, state) =
+            (std::fs::read(&path).unwrap(), std::fs::read(path.with_extension("state")).unwrap());
         assert_eq!(copy_state(&rules, &state), check_state(&rules, &state).map(|()| state));
         lists.push(rules);
     }
@@ -44,18 +47,47 @@ fn every_vector_comes_back_byte_for_byte() {
         lists.push(parts(&input).map_or(&input[..], |(rules, _)| rules).to_vec());
     }
     let accepted = lists.iter().filter(|rules| check_rules(rules).is_ok()).count();
-    assert!(accepted > 100 && lists.len() - accepted > 50, "{accepted} of {} accepted", lists.len());
+    assert!(
+        accepted > 100 && lists.len() - accepted > 50,
+        "{accepted} of {} accepted",
+        lists.len()
+    );
     for rules in lists {
         assert_eq!(copy_rules(&rules), check_rules(&rules).map(|()| rules));
     }
 }
 
+/// Each pair of policies and rules: the calls that return what they write give each other, and there is room for it.
+#[test]
+fn every_pair_survives_either_journey() {
+    let mut pairs = 0;
+    for path in
+        vectors("policies", "policies").iter().filter(|path| path.with_extension("rules").exists())
+    {
+        let [policies, rules] =
+            ["policies", "rules"].map(|end| std::fs::read(path.with_extension(end)).unwrap());
+        assert_eq!(rules_from_policies(&policies), Ok(rules.clone()), "{}", path.display());
+        assert!(policies.len() <= POLICIES_MOST && rules.len() <= RULES_MOST);
+        assert_eq!(policies_from_rules(&rules), Ok(policies), "{}", path.display());
+        pairs += 1;
+    }
+    assert!(pairs > 10, "{pairs} pairs");
+}
+
 /// A call that takes more stack than the header says ends the test's process. The thread itself gets 16 KiB beside it.
 #[test]
 fn each_call_fits_the_stack() {
-    let inputs: Vec<Vec<u8>> = vectors("program", "in").into_iter().map(|path| std::fs::read(path).unwrap()).collect();
+    let inputs: Vec<Vec<u8>> =
+        vectors("program", "in").into_iter().map(|path| std::fs::read(path).unwrap()).collect();
     assert!(inputs.len() > 100, "{} inputs", inputs.len());
+    let [policies, lists] = ["policies", "rules"].map(|end| vectors("policies", end));
     let calls = move || {
+        for path in &policies {
+            let _ = rules_from_policies(&std::fs::read(path).unwrap());
+        }
+        for path in &lists {
+            let _ = policies_from_rules(&std::fs::read(path).unwrap());
+        }
         for input in &inputs {
             respond(input).unwrap();
             if let Some((rules, steps)) = parts(input) {
@@ -67,16 +99,25 @@ fn each_call_fits_the_stack() {
             }
         }
     };
-    std::thread::Builder::new().stack_size(STACK_MOST + 16 * 1024).spawn(calls).unwrap().join().unwrap();
+    std::thread::Builder::new()
+        .stack_size(STACK_MOST + 16 * 1024)
+        .spawn(calls)
+        .unwrap()
+        .join()
+        .unwrap();
 }
 
 /// The header has the same causes, beside each number and in words, and the same sizes.
 #[test]
 fn the_header_says_the_same() {
     let beside = |number: u64, cause: &str| {
-        HEADER.lines().any(|line| line.contains(&format!(" = {number}")) && line.contains(&format!("/* {cause} */")))
+        HEADER.lines().any(|line| {
+            line.contains(&format!(" = {number}")) && line.contains(&format!("/* {cause} */"))
+        })
     };
-    let in_words = |number: u64, cause: &str| HEADER.contains(&format!("    case {number}: return \"{cause}\";\n"));
+    let in_words = |number: u64, cause: &str| {
+        HEADER.contains(&format!("    case {number}: return \"{cause}\";\n"))
+    };
     for number in 1..100 {
         if let Some(cause) = cause(number) {
             assert!(beside(number, cause) && in_words(number, cause), "{number}");
@@ -87,6 +128,7 @@ fn the_header_says_the_same() {
     for (name, bytes) in [
         ("INPUT_MOST", INPUT_MOST),
         ("RULES_MOST", RULES_MOST),
+        ("POLICIES_MOST", POLICIES_MOST),
         ("STATE_MOST", STATE_MOST),
         ("OUTPUT_MOST", OUTPUT_MOST),
         ("ANSWER_MOST", ANSWER_MOST),
@@ -95,6 +137,9 @@ fn the_header_says_the_same() {
         ("VERSION", VERSION as usize),
     ] {
         let define = format!("#define PITCH_GATE_{name} {bytes}");
-        assert!(HEADER.lines().any(|line| line.split(" /*").next().map(str::trim_end) == Some(&define)), "{define}");
+        assert!(
+            HEADER.lines().any(|line| line.split(" /*").next().map(str::trim_end) == Some(&define)),
+            "{define}"
+        );
     }
 }

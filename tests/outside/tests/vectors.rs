@@ -1,7 +1,10 @@
 //! Each vector through the plain gate: what its files expect.
 
-use outside::compare::expected::{expected_run, no_room, Refused};
+use outside::compare::expected::{
+    accepted_policies, accepted_rules, expected_run, no_room, written_policies, Refused,
+};
 use outside::plain::program::respond;
+use outside::plain::rule_text::write_rules;
 use outside::vectors::{text, vectors};
 use pitch_gate::Text;
 use std::path::Path;
@@ -30,23 +33,52 @@ fn states_handed_over() {
     }
 }
 
+/// A pair gives each other; a text with a refusal is refused.
+#[test]
+fn policies_and_rules() {
+    let [policies, lists] = ["policies", "rules"].map(|end| vectors("policies", end));
+    assert!(policies.len() > 50 && lists.len() > 20, "{} and {}", policies.len(), lists.len());
+    for path in policies {
+        let rules = accepted_policies(&text(&path, "policies")).map(|list| write_rules(&list));
+        check_turned(&path, rules, "rules", 0);
+    }
+    for path in lists {
+        let list = accepted_rules(&text(&path, "rules"));
+        let policies = list.and_then(|list| written_policies(&list));
+        check_turned(&path, policies, "policies", 1);
+    }
+}
+
+/// The text that is written has this ending; of two spaces its own is this one.
+fn check_turned(path: &Path, turned: Result<Vec<u8>, Refused>, end: &str, space: usize) {
+    let refused = path.with_extension("refused").exists();
+    let expected = shown(&text(path, if refused { "refused" } else { end }));
+    let lent = spaces(path).map(|lent| lent[space.min(lent.len() - 1)]);
+    let found = turned.and_then(|text| {
+        no_room(lent.unwrap_or(text.len()), text.len(), Text::OutputSpace)?;
+        Ok(shown(&text))
+    });
+    let expected = if refused { Err(expected) } else { Ok(expected) };
+    assert_eq!(found.map_err(written), expected, "{}", path.display());
+}
+
 /// The answers and the new saved state.
 fn handed_over(path: &Path) -> Result<(String, String), Refused> {
     let [rules, state, steps] = ["rules", "state", "steps"].map(|end| text(path, end));
     let run = expected_run(&rules, &state, &steps, &mut |_, _, _| {})?;
-    if let Some((answers, next)) = spaces(path) {
-        no_room(answers, run.answers.len(), Text::OutputSpace)?;
-        no_room(next, run.state.len(), Text::StateSpace)?;
+    if let Some(lent) = spaces(path) {
+        no_room(lent[0], run.answers.len(), Text::OutputSpace)?;
+        no_room(lent[1], run.state.len(), Text::StateSpace)?;
     }
     Ok((shown(&run.answers), shown(&run.state)))
 }
 
-/// The bytes lent for the answers and for the state, where they matter.
-fn spaces(path: &Path) -> Option<(usize, usize)> {
+/// The bytes lent, where they matter: for the answers and for the state, or for the rules and for
+/// the policies.
+fn spaces(path: &Path) -> Option<Vec<usize>> {
     path.with_extension("spaces").exists().then(|| {
         let lengths = shown(&text(path, "spaces"));
-        let (answers, next) = lengths.trim_end().split_once(' ').unwrap();
-        (answers.parse().unwrap(), next.parse().unwrap())
+        lengths.split_whitespace().map(|length| length.parse().unwrap()).collect()
     })
 }
 
@@ -57,7 +89,8 @@ fn written(Refused { number, text, place }: Refused) -> String {
         Text::Steps => "steps",
         Text::OutputSpace => "output-space",
         Text::StateSpace => "state-space",
-        other => panic!("a text that document 01 does not have: {other}"),
+        Text::Policies => "policies",
+        other => panic!("a text that the documents do not have: {other}"),
     };
     format!("(refused {name} {number} {place})\n")
 }

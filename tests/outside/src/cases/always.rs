@@ -2,6 +2,7 @@
 
 use super::loans::compare_loans;
 use super::places::{compare_saved_reports, compare_written_errors, error_sweeps};
+use super::policies::compare_policies;
 use super::rights::compare_rights;
 use super::sweeps::{calendar_sweep, place_sweep, Sweep};
 use super::vectors::compare_vectors;
@@ -28,6 +29,7 @@ pub fn compare_always(comparison: &mut Comparison) -> Compared {
     compare_fullest_state(comparison)?;
     compare_loans(comparison)?;
     compare_rights(comparison)?;
+    compare_policies(comparison)?;
     compare_sweep(comparison, calendar_sweep())?;
     compare_sweep(comparison, place_sweep())?;
     compare_written_errors(comparison)?;
@@ -56,7 +58,8 @@ fn compare_number_edges(comparison: &mut Comparison) -> Compared {
     Ok(())
 }
 
-fn edges(text: &str) -> impl Iterator<Item = Vec<u8>> {
+/// Each number at its edges, and each two of them.
+pub fn edges(text: &str) -> impl Iterator<Item = Vec<u8>> {
     number_edges(text).into_iter().chain(two_number_edges(text))
 }
 

@@ -3,6 +3,7 @@
 pub mod always;
 mod loans;
 mod places;
+mod policies;
 mod rights;
 mod safety;
 mod seeded;

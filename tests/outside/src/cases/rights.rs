@@ -136,7 +136,7 @@ fn compare_long_lists(comparison: &mut Comparison) -> Compared {
 }
 
 /// The right lines of the kinds that are chosen, each with its own permission.
-fn rights_of(chosen: usize) -> String {
+pub fn rights_of(chosen: usize) -> String {
     let kinds = RightKind::ALL.into_iter().enumerate();
     let kinds = kinds.filter(|(place, _)| chosen >> place & 1 == 1);
     kinds

@@ -1,6 +1,7 @@
 //! A world, rules, a state and steps, all drawn from one seed; then their texts damaged.
 
 use super::input;
+use super::policies::compare_seeded_policies;
 use super::safety::compare_own_steps;
 use crate::compare::{Compared, Comparison};
 use crate::generate::damage::DAMAGES;
@@ -28,7 +29,8 @@ pub fn compare_seed(comparison: &mut Comparison, seed: u64) -> Compared {
     for _ in 0..rounds {
         texts.compare_damaged(comparison, &mut random)?;
     }
-    compare_own_steps(comparison, &mut random)
+    compare_own_steps(comparison, &mut random)?;
+    compare_seeded_policies(comparison, &mut random)
 }
 
 struct Texts {
@@ -134,7 +136,7 @@ fn pieces(random: &mut Random, steps: &[u8], cut: usize) -> Vec<Vec<u8>> {
 }
 
 /// Damaged once, now and then twice: "the first bad line counts".
-fn damaged(comparison: &mut Comparison, random: &mut Random, text: &[u8]) -> Vec<u8> {
+pub fn damaged(comparison: &mut Comparison, random: &mut Random, text: &[u8]) -> Vec<u8> {
     let mut damaged = text.to_vec();
     let times = if random.percent(25) { 2 } else { 1 };
     for _ in 0..times {

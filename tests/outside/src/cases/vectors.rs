@@ -18,6 +18,12 @@ pub fn compare_vectors(comparison: &mut Comparison) -> Compared {
         comparison.check_state(&rules, &state)?;
         compare_run(comparison, &rules, &state, &steps)?;
     }
+    for path in vectors("policies", "policies") {
+        comparison.rules_from_policies(&text(&path, "policies"))?;
+    }
+    for path in vectors("policies", "rules") {
+        comparison.policies_from_rules(&text(&path, "rules"))?;
+    }
     Ok(())
 }
 

@@ -3,6 +3,7 @@
 use super::Shown;
 use crate::plain::form::Bad;
 use crate::plain::gate::{self, Watch};
+use crate::plain::policies::{read_policies, write_policies};
 use crate::plain::ranges::LONGEST_INPUT;
 use crate::plain::rule_text::read_rules;
 use crate::plain::rules::RuleList;
@@ -28,6 +29,15 @@ pub struct Run {
 
 pub fn accepted_rules(rules: &[u8]) -> Result<RuleList, Refused> {
     read_rules(rules).map_err(|bad| about(Text::Rules, bad))
+}
+
+pub fn accepted_policies(policies: &[u8]) -> Result<RuleList, Refused> {
+    read_policies(policies).map_err(|bad| about(Text::Policies, bad))
+}
+
+/// What has no policy line is something of the rule list.
+pub fn written_policies(list: &RuleList) -> Result<Vec<u8>, Refused> {
+    write_policies(list).map_err(|bad| about(Text::Rules, bad))
 }
 
 pub fn accepted_state(rules: &[u8], state: &[u8]) -> Result<(RuleList, State), Refused> {

@@ -1,9 +1,10 @@
 //! The library against the plain gate, byte for byte.
 
 pub mod expected;
+mod policies;
 mod space;
 
-use crate::counts::{Counts, INPUT, OUTPUT_SPACE, RULES, STATE, STATE_SPACE, STEPS_TEXT};
+use crate::counts::{Counts, INPUT, OUTPUT_SPACE, POLICIES, RULES, STATE, STATE_SPACE, STEPS_TEXT};
 use crate::generate::random::Random;
 use crate::plain::form::Bad;
 use crate::plain::gate;
@@ -56,12 +57,7 @@ impl Comparison {
             counts.step(list, step, outcome);
         });
         let found = told(pitch_gate::respond(input));
-        self.same(
-            "respond",
-            &[input],
-            &Ok(Shown(&output)),
-            &found.as_deref().map(Shown).map_err(|refusal| *refusal),
-        )?;
+        self.same("respond", &[input], &Ok(Shown(&output)), &shown(&found))?;
         for room in rooms(output.len()) {
             let mut space = self.space(room);
             let expected = no_room(room, output.len(), Text::OutputSpace);
@@ -115,12 +111,7 @@ impl Comparison {
     pub fn fresh_state(&mut self) -> Compared {
         let fresh = b"(now 0)\n";
         let found = told(pitch_gate::fresh_state());
-        self.same(
-            "fresh_state",
-            &[],
-            &Ok(Shown(fresh)),
-            &found.as_deref().map(Shown).map_err(|refusal| *refusal),
-        )?;
+        self.same("fresh_state", &[], &Ok(Shown(fresh)), &shown(&found))?;
         for room in rooms(fresh.len()) {
             let mut space = self.space(room);
             let expected = no_room(room, fresh.len(), Text::StateSpace);
@@ -293,6 +284,10 @@ fn told<Value>(result: Result<Value, Refusal>) -> Result<Value, Refused> {
     result.map_err(Refused::from)
 }
 
+fn shown(written: &Result<Vec<u8>, Refused>) -> Result<Shown<'_>, Refused> {
+    written.as_deref().map(Shown).map_err(|refusal| *refusal)
+}
+
 /// What stands before a line of the text, and the line without its line feed; line 0 is none.
 fn parted(text: &[u8], place: u64) -> (&[u8], &[u8]) {
     let Some(before) = place.checked_sub(1) else { return (b"", b"") };
@@ -314,7 +309,8 @@ fn name(text: Text) -> &'static str {
         Text::Steps => STEPS_TEXT,
         Text::OutputSpace => OUTPUT_SPACE,
         Text::StateSpace => STATE_SPACE,
-        other => panic!("a text that document 01 does not have: {other}"),
+        Text::Policies => POLICIES,
+        other => panic!("a text that the documents do not have: {other}"),
     }
 }
 

@@ -9,7 +9,7 @@ use super::right_damage::{
 };
 use std::ops::Range;
 
-type Damage = fn(&mut Random, &[u8]) -> Vec<u8>;
+pub type Damage = fn(&mut Random, &[u8]) -> Vec<u8>;
 
 pub const DAMAGES: [(&str, Damage); 38] = [
     ("bit flipped", bit_flipped),
@@ -170,6 +170,15 @@ pub fn replaced(text: &[u8], range: Range<usize>, with: &[u8]) -> Vec<u8> {
     [&text[..range.start], with, &text[range.end..]].concat()
 }
 
+/// Where the byte stands, at one place of all, other bytes stand instead.
+pub fn at_any_byte(random: &mut Random, text: &[u8], byte: u8, with: &[u8]) -> Vec<u8> {
+    let places: Vec<usize> = (0..text.len()).filter(|&index| text[index] == byte).collect();
+    match random.pick_any(&places) {
+        Some(place) => replaced(text, place..place + 1, with),
+        None => text.to_vec(),
+    }
+}
+
 pub fn at_any_number(
     random: &mut Random,
     text: &[u8],
@@ -196,7 +205,7 @@ fn with_lines(
     lines.concat()
 }
 
-fn bit_flipped(random: &mut Random, text: &[u8]) -> Vec<u8> {
+pub fn bit_flipped(random: &mut Random, text: &[u8]) -> Vec<u8> {
     let mut damaged = text.to_vec();
     if !text.is_empty() {
         damaged[random.below(text.len())] ^= 1 << random.below(8);
@@ -204,7 +213,7 @@ fn bit_flipped(random: &mut Random, text: &[u8]) -> Vec<u8> {
     damaged
 }
 
-fn byte_replaced(random: &mut Random, text: &[u8]) -> Vec<u8> {
+pub fn byte_replaced(random: &mut Random, text: &[u8]) -> Vec<u8> {
     let mut damaged = text.to_vec();
     if !text.is_empty() {
         damaged[random.below(text.len())] = any_byte(random);
@@ -212,7 +221,7 @@ fn byte_replaced(random: &mut Random, text: &[u8]) -> Vec<u8> {
     damaged
 }
 
-fn byte_inserted(random: &mut Random, text: &[u8]) -> Vec<u8> {
+pub fn byte_inserted(random: &mut Random, text: &[u8]) -> Vec<u8> {
     let mut damaged = text.to_vec();
     damaged.insert(random.below(text.len() + 1), any_byte(random));
     damaged
@@ -227,7 +236,7 @@ fn any_byte(random: &mut Random) -> u8 {
     }
 }
 
-fn byte_deleted(random: &mut Random, text: &[u8]) -> Vec<u8> {
+pub fn byte_deleted(random: &mut Random, text: &[u8]) -> Vec<u8> {
     let mut damaged = text.to_vec();
     if !text.is_empty() {
         damaged.remove(random.below(text.len()));
@@ -235,66 +244,58 @@ fn byte_deleted(random: &mut Random, text: &[u8]) -> Vec<u8> {
     damaged
 }
 
-fn line_dropped(random: &mut Random, text: &[u8]) -> Vec<u8> {
+pub fn line_dropped(random: &mut Random, text: &[u8]) -> Vec<u8> {
     with_lines(random, text, |random, lines| {
         lines.remove(random.below(lines.len()));
     })
 }
 
-fn line_doubled(random: &mut Random, text: &[u8]) -> Vec<u8> {
+pub fn line_doubled(random: &mut Random, text: &[u8]) -> Vec<u8> {
     with_lines(random, text, |random, lines| {
         let line = random.below(lines.len());
         lines.insert(line, lines[line]);
     })
 }
 
-fn lines_swapped(random: &mut Random, text: &[u8]) -> Vec<u8> {
+pub fn lines_swapped(random: &mut Random, text: &[u8]) -> Vec<u8> {
     with_lines(random, text, |random, lines| {
         let (one, other) = (random.below(lines.len()), random.below(lines.len()));
         lines.swap(one, other);
     })
 }
 
-fn line_moved_to_the_front(random: &mut Random, text: &[u8]) -> Vec<u8> {
+pub fn line_moved_to_the_front(random: &mut Random, text: &[u8]) -> Vec<u8> {
     with_lines(random, text, |random, lines| {
         let line = lines.remove(random.below(lines.len()));
         lines.insert(0, line);
     })
 }
 
-fn empty_line(random: &mut Random, text: &[u8]) -> Vec<u8> {
+pub fn empty_line(random: &mut Random, text: &[u8]) -> Vec<u8> {
     with_lines(random, text, |random, lines| lines.insert(random.below(lines.len() + 1), b"\n"))
 }
 
-fn space_doubled(random: &mut Random, text: &[u8]) -> Vec<u8> {
-    let spaces = runs(text, |byte| byte == b' ');
-    match random.pick_any(&Vec::from_iter(&spaces)) {
-        Some(space) => replaced(text, space.clone(), b"  "),
-        None => text.to_vec(),
-    }
+pub fn space_doubled(random: &mut Random, text: &[u8]) -> Vec<u8> {
+    at_any_byte(random, text, b' ', b"  ")
 }
 
-fn leading_zero(random: &mut Random, text: &[u8]) -> Vec<u8> {
+pub fn leading_zero(random: &mut Random, text: &[u8]) -> Vec<u8> {
     at_any_number(random, text, |_, digits| [b"0", digits].concat())
 }
 
-fn minus(random: &mut Random, text: &[u8]) -> Vec<u8> {
+pub fn minus(random: &mut Random, text: &[u8]) -> Vec<u8> {
     at_any_number(random, text, |_, digits| [b"-", digits].concat())
 }
 
 fn minus_dropped(random: &mut Random, text: &[u8]) -> Vec<u8> {
-    let signs: Vec<usize> = (0..text.len()).filter(|&index| text[index] == b'-').collect();
-    match random.pick_any(&signs) {
-        Some(sign) => replaced(text, sign..sign + 1, b""),
-        None => text.to_vec(),
-    }
+    at_any_byte(random, text, b'-', b"")
 }
 
-fn number_at_an_edge(random: &mut Random, text: &[u8]) -> Vec<u8> {
+pub fn number_at_an_edge(random: &mut Random, text: &[u8]) -> Vec<u8> {
     at_any_number(random, text, |random, _| random.pick(&EDGE_VALUES).to_string().into_bytes())
 }
 
-fn number_by_one(random: &mut Random, text: &[u8]) -> Vec<u8> {
+pub fn number_by_one(random: &mut Random, text: &[u8]) -> Vec<u8> {
     at_any_number(random, text, |random, digits| {
         let value: u64 = String::from_utf8_lossy(digits).parse().unwrap_or(0);
         let near = if random.percent(50) { value + 1 } else { value.saturating_sub(1) };
@@ -303,7 +304,7 @@ fn number_by_one(random: &mut Random, text: &[u8]) -> Vec<u8> {
 }
 
 /// A number of a line takes the place of another number of the same line.
-fn number_repeated(random: &mut Random, text: &[u8]) -> Vec<u8> {
+pub fn number_repeated(random: &mut Random, text: &[u8]) -> Vec<u8> {
     let numbers = numbers(text);
     if numbers.len() < 2 {
         return text.to_vec();
@@ -316,7 +317,7 @@ fn number_repeated(random: &mut Random, text: &[u8]) -> Vec<u8> {
     replaced(text, later, &text[earlier])
 }
 
-fn digit_replaced(random: &mut Random, text: &[u8]) -> Vec<u8> {
+pub fn digit_replaced(random: &mut Random, text: &[u8]) -> Vec<u8> {
     at_any_number(random, text, |random, digits| {
         let mut digits = digits.to_vec();
         let index = random.below(digits.len());
@@ -325,11 +326,11 @@ fn digit_replaced(random: &mut Random, text: &[u8]) -> Vec<u8> {
     })
 }
 
-fn ten_digits(random: &mut Random, text: &[u8]) -> Vec<u8> {
+pub fn ten_digits(random: &mut Random, text: &[u8]) -> Vec<u8> {
     at_any_number(random, text, |random, _| some_digits(random, 10))
 }
 
-fn eleven_digits(random: &mut Random, text: &[u8]) -> Vec<u8> {
+pub fn eleven_digits(random: &mut Random, text: &[u8]) -> Vec<u8> {
     at_any_number(random, text, |random, _| some_digits(random, 11))
 }
 
@@ -339,7 +340,7 @@ fn some_digits(random: &mut Random, length: usize) -> Vec<u8> {
     std::iter::once(first).chain(rest).collect()
 }
 
-fn number_dropped(random: &mut Random, text: &[u8]) -> Vec<u8> {
+pub fn number_dropped(random: &mut Random, text: &[u8]) -> Vec<u8> {
     let numbers = numbers(text);
     match random.pick_any(&Vec::from_iter(&numbers)) {
         Some(number) if number.start > 0 => replaced(text, number.start - 1..number.end, b""),
@@ -348,22 +349,27 @@ fn number_dropped(random: &mut Random, text: &[u8]) -> Vec<u8> {
 }
 
 fn word_replaced(random: &mut Random, text: &[u8]) -> Vec<u8> {
-    let words = runs(text, |byte| byte.is_ascii_lowercase() || byte == b'-');
+    at_any_word(random, text, &WORDS)
+}
+
+/// A word becomes one of these.
+pub fn at_any_word(random: &mut Random, text: &[u8], others: &[&str]) -> Vec<u8> {
+    let words = runs(text, |byte| byte.is_ascii_alphabetic() || byte == b'-');
     match random.pick_any(&Vec::from_iter(&words)) {
-        Some(word) => replaced(text, word.clone(), random.pick(&WORDS).as_bytes()),
+        Some(word) => replaced(text, word.clone(), random.pick(others).as_bytes()),
         None => text.to_vec(),
     }
 }
 
-fn no_last_line_feed(_: &mut Random, text: &[u8]) -> Vec<u8> {
+pub fn no_last_line_feed(_: &mut Random, text: &[u8]) -> Vec<u8> {
     text.strip_suffix(b"\n").unwrap_or(text).to_vec()
 }
 
-fn cut_short(random: &mut Random, text: &[u8]) -> Vec<u8> {
+pub fn cut_short(random: &mut Random, text: &[u8]) -> Vec<u8> {
     text[..random.below(text.len() + 1)].to_vec()
 }
 
-fn empty(_: &mut Random, _: &[u8]) -> Vec<u8> {
+pub fn empty(_: &mut Random, _: &[u8]) -> Vec<u8> {
     Vec::new()
 }
 

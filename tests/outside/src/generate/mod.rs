@@ -7,6 +7,8 @@ mod loan_damage;
 pub mod loans;
 pub mod place_damage;
 pub mod places;
+pub mod policies;
+pub mod policy_damage;
 pub mod random;
 pub mod right_damage;
 pub mod rights;

@@ -8,8 +8,12 @@ use crate::plain::places::{Position, Shape, Side};
 use crate::plain::ranges::{METRES, RADII, TIMES};
 use crate::plain::rules::{Rule, RuleList};
 
-const FAMILIES: usize = 12;
-const NEEDS: usize = 7;
+pub const FAMILIES: usize = 12;
+pub const BEFORE: usize = 0;
+pub const MAX_USERS: usize = 1;
+pub const MAX_ROLES: usize = 2;
+pub const MAX_ACTIVE: usize = 4;
+pub const NEEDS: usize = 7;
 const DURING: usize = 8;
 const AT: usize = 9;
 const LAST_DAY: i64 = 36_524;
@@ -43,17 +47,27 @@ fn chain(random: &mut Random, world: &World) -> Vec<Rule> {
     rules.insert(random.below(rules.len() + 1), first);
     for _ in 0..random.below(3) {
         let family = random.below(FAMILIES);
-        let place = random.below(rules.len() + 1);
-        rules.insert(place, rule(random, world, family));
+        insert_rule(random, world, &mut rules, family);
     }
     rules
 }
 
+/// A rule of the family goes to any place.
+pub fn insert_rule(random: &mut Random, world: &World, rules: &mut Vec<Rule>, family: usize) {
+    let place = random.below(rules.len() + 1);
+    rules.insert(place, rule(random, world, family));
+}
+
 fn mixed(random: &mut Random, world: &World) -> Vec<Rule> {
     let families = families(random);
+    rules_of(random, world, &families)
+}
+
+/// Rules of these families alone, 0 to 128 of them.
+pub fn rules_of(random: &mut Random, world: &World, families: &[usize]) -> Vec<Rule> {
     let length = length(random);
     let rules = (0..length).map(|_| {
-        let family = *random.pick(&families);
+        let family = *random.pick(families);
         rule(random, world, family)
     });
     rules.collect()
@@ -86,11 +100,11 @@ fn rule(random: &mut Random, world: &World, family: usize) -> Rule {
     let (role, other) = world.two_roles(random);
     let (permission, other_permission) = world.two_permissions(random);
     match family {
-        0 => Rule::Before { role, required: other },
-        1 => Rule::MaxUsers { role, limit: limit(random, 64) },
-        2 => Rule::MaxRoles { limit: limit(random, 32) },
+        BEFORE => Rule::Before { role, required: other },
+        MAX_USERS => Rule::MaxUsers { role, limit: limit(random, 64) },
+        MAX_ROLES => Rule::MaxRoles { limit: limit(random, 32) },
         3 => Rule::MaxPermissions { role, limit: limit(random, 32) },
-        4 => Rule::MaxActive { limit: limit(random, 32) },
+        MAX_ACTIVE => Rule::MaxActive { limit: limit(random, 32) },
         5 => Rule::Apart { role, other },
         6 => Rule::ApartActive { role, other },
         NEEDS => needs(random, role, other),

@@ -6,7 +6,7 @@ pub enum Form<'text> {
     List(Vec<Form<'text>>),
 }
 
-/// The refusal of a text: its number, and the line (for 17 the rule).
+/// The refusal of a text: its number, and the line (for 17 and 56 the rule).
 #[derive(Clone, Copy, Debug, PartialEq, Eq)]
 pub struct Bad {
     pub number: u64,

@@ -7,6 +7,7 @@ pub mod largest;
 pub mod numbers;
 pub mod own_steps;
 pub mod places;
+pub mod policies;
 pub mod program;
 pub mod ranges;
 pub mod rights;

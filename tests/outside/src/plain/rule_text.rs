@@ -17,9 +17,17 @@ enum Line {
 }
 
 pub fn read_rules(text: &[u8]) -> Result<RuleList, Bad> {
+    read_list(text, add_line)
+}
+
+/// "the first bad line counts": no line after it is looked at.
+pub fn read_list(
+    text: &[u8],
+    add: impl Fn(&mut RuleList, Option<&[u8]>) -> Result<(), u64>,
+) -> Result<RuleList, Bad> {
     let mut list = RuleList::default();
     for (line, place) in lines(text).zip(1..) {
-        add_line(&mut list, line).map_err(|number| Bad { number, place })?;
+        add(&mut list, line).map_err(|number| Bad { number, place })?;
     }
     Ok(list)
 }
@@ -48,7 +56,8 @@ fn add_right(list: &mut RuleList, kind: RightKind, permission: i64) -> Result<()
     Ok(())
 }
 
-fn add_rule(list: &mut RuleList, number: i64, rule: Rule) -> Result<(), u64> {
+/// The rule is the next of the list, or refused with 12, 13 or 14.
+pub fn add_rule(list: &mut RuleList, number: i64, rule: Rule) -> Result<(), u64> {
     let checks = [
         (12, number as usize != list.rules.len() + 1),
         (13, rule.names_one_twice()),
