@@ -66,7 +66,7 @@ list-back list slots lent n answer =
 -- ---- from one language to the other and back
 
 -- good policies, as a list, are read from our text as they are
-own-back : (rules : List Rule) → GoodPolicies rules → readRules (textOf (listOf noRights rules)) ≡ record { number = 0; line = 0; list = listOf noRights rules }
+pub own-back : (rules : List Rule) → GoodPolicies rules → readRules (textOf (listOf noRights rules)) ≡ record { number = 0; line = 0; list = listOf noRights rules }
 own-back rules good =
     let list = listOf noRights rules in
     let rights : list .rights ≡ noRights = list-rights noRights rules in
@@ -74,16 +74,17 @@ own-back rules good =
     ∙ ap (λ (r : List RightSlot). record { number = 0; line = 0; list = listOf r (rulesOf list) }) rights
     ∙ ap (λ (l : List Rule). record { number = 0; line = 0; list = listOf noRights l }) (list-of-rules rules good)
 
--- from policies to our text and back: our text is accepted, and the same policies come back, byte for byte
+-- from policies to our text and back: our text is accepted, nothing in it lacks a policy, and the same policies come back, byte for byte
 pub policies-survive : (policies : List ℕ) → readPolicies policies .number ≡ 0
-    → (readRules (textOf (readPolicies policies .list)) .number ≡ 0) × (policiesText (readRules (textOf (readPolicies policies .list)) .list) ≡ policies)
+    → (readRules (textOf (readPolicies policies .list)) .number ≡ 0) × Expressible (readRules (textOf (readPolicies policies .list)) .list)
+    × (policiesText (readRules (textOf (readPolicies policies .list)) .list) ≡ policies)
 policies-survive policies none =
     let rules = policiesRead policies .rules in
     let good = reads-lines policies .good in
     let whole = whole-list policies none in
     let there : readRules (textOf (readPolicies policies .list)) ≡ record { number = 0; line = 0; list = listOf noRights rules } =
     ap (λ (l : LoadedRules). readRules (textOf (l .list))) (whole .0) ∙ own-back rules good in
-    (ap (λ (l : LoadedRules). l .number) there, rw (there, list-of-rules rules good) (sym (whole .1)))
+    (ap (λ (l : LoadedRules). l .number) there, rw there (list-expressible rules good), rw (there, list-of-rules rules good) (sym (whole .1)))
 
 -- rights of which none is stated have no text
 no-rights-text : (kind : ℕ) (rights : List RightSlot) → ((i : ℕ) → i < length rights → rightAt rights i ≡ Unstated) → rightsText kind rights ≡ []

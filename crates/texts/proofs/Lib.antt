@@ -13,3 +13,5 @@ pub mod LoanSizes
 pub mod StateSizes
 pub mod Needed
 pub mod RuleSizes
+pub mod PolicySizes
+pub mod Journeys

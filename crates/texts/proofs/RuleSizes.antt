@@ -3,6 +3,7 @@ use mathlib.Core.Path.{_≡_, refl, sym, ap, _∙_, subst}
 use mathlib.Core.Bool.{Bool, true, false, cond, _&&_}
 use mathlib.Core.List.{List, [], _∷_, _++_}
 use Prim.Native.Nat.{ℕ, zero, suc, _+_, _-_, _*_, _/_, _≤_, _<_}
+use native.Mathlib.Nat.{mul-suc}
 use native.Mathlib.Omega.{arith}
 use lib.ListN.{length, drop, getD, replicate, length-append, length-replicate, getD-replicate}
 use lib.Dec.{ltb, leb}
@@ -63,7 +64,7 @@ digits-more (suc bound) v w b h = go (ltb v 10) refl (digits-more bound (v / 10)
 -- ---- how long a form's line can be
 
 -- the most bytes of what stands for a mark
-unfoldable widestBy : Syntax → ℕ → ℕ
+unfoldable pub widestBy : Syntax → ℕ → ℕ
 widestBy syntax.Literal high = 1
 widestBy syntax.Number high = length (digitsOf high)
 widestBy syntax.Positive high = length (digitsOf high)
@@ -84,7 +85,7 @@ by-syntax syntax.Signed low high c v h = go (ltb 10000000000 v) h
 by-syntax syntax.Date low high c v h = omega (arith, fixed-length 8 v)
 by-syntax syntax.TimeOfDay low high c v h = omega (arith, fixed-length 4 v)
 
-unfoldable widest : List ℕ → ℕ
+unfoldable pub widest : List ℕ → ℕ
 widest [] = 0
 widest (c ∷ form) = widestBy (syntaxOf c) (kindOf c .high) + widest form
 
@@ -92,7 +93,7 @@ item-most : (c v : ℕ) → inRange c v ≡ true → length (itemText c v) ≤ w
 unfolding itemText inRange
 item-most c v h = by-syntax (syntaxOf c) (kindOf c .low) (kindOf c .high) c v h
 
-fill-most : (form values : List ℕ) → allInRange form values ≡ true → length (fill form values) ≤ widest form
+pub fill-most : (form values : List ℕ) → allInRange form values ≡ true → length (fill form values) ≤ widest form
 unfolding fill allInRange widest
 fill-most [] values h = omega arith
 fill-most (c ∷ form) values h =
@@ -122,7 +123,7 @@ forms-short : everyForm (λ form. leb (widest (drop 7 form)) 62) (linesIn ruleFo
 unfolding everyForm widest widestBy kindOf lookup linesIn ruleForms digitsOf digitsWithin
 forms-short = refl
 
-head-first : (values : List ℕ) → head values ≡ getD values 0 0
+pub head-first : (values : List ℕ) → head values ≡ getD values 0 0
 head-first [] = refl
 head-first (v ∷ values) = refl
 
@@ -139,31 +140,44 @@ line-most n rule first last h =
     let most = leb-true (widest rest) 62 (form-at (λ form. leb (widest (drop 7 form)) 62) forms-short k (omega (arith, form-of-rule n rule))) in
     omega (arith, whole, number, fill-most rest (tail values) ranged, most)
 
+accepted-line : (n : ℕ) (rule : Rule) → 1 ≤ n → n ≤ 128 → ruleAccepted rule ≡ true → length (ruleText n rule) ≤ 68 + length (digitsOf n)
+accepted-line n rule first last accepted = line-most n rule first last (both (ruleInRange rule) (ruleDistinct rule && ruleSound rule) accepted .0)
+
 -- ---- all lines
 
 -- the digits of so many numbers, from m on
-unfoldable digitSum : ℕ → ℕ → ℕ
+unfoldable pub digitSum : ℕ → ℕ → ℕ
 digitSum zero m = 0
 digitSum (suc n) m = length (digitsOf m) + digitSum n (suc m)
 
-sum-grows : (n more m : ℕ) → digitSum n m ≤ digitSum (n + more) m
+pub sum-grows : (n more m : ℕ) → digitSum n m ≤ digitSum (n + more) m
 unfolding digitSum
 sum-grows zero more m = omega arith
 sum-grows (suc n) more m =
     let e : suc n + more ≡ suc (n + more) = omega arith in
     rw e (omega (arith, sum-grows n more (suc m)))
 
-sum-all : digitSum 128 1 ≡ 276
+pub sum-all : digitSum 128 1 ≡ 276
 unfolding digitSum digitsOf digitsWithin
 sum-all = refl
 
-list-most : (rules : List Rule) (m : ℕ) → 1 ≤ m → m + length rules ≤ 129 → every ruleAccepted rules ≡ true → length (listText ruleText m rules) ≤ 68 * length rules + digitSum (length rules) m
+-- where the line of each rule that passes has at most so many bytes beside its number, in any language of rules
+pub list-most : (line : ℕ → Rule → List ℕ) (passes : Rule → Bool) (width : ℕ)
+    → ((n : ℕ) (rule : Rule) → 1 ≤ n → n ≤ 128 → passes rule ≡ true → length (line n rule) ≤ width + length (digitsOf n))
+    → (rules : List Rule) (m : ℕ) → 1 ≤ m → m + length rules ≤ 129 → every passes rules ≡ true → length (listText line m rules) ≤ width * length rules + digitSum (length rules) m
 unfolding listText every digitSum
-list-most [] m first last h = omega arith
-list-most (rule ∷ rules) m first last h =
-    let p = both (ruleAccepted rule) (every ruleAccepted rules) h in
-    let ranged = both (ruleInRange rule) (ruleDistinct rule && ruleSound rule) (p .0) .0 in
-    rw length-append (omega (arith, line-most m rule first (omega arith) ranged, list-most rules (suc m) (omega arith) (omega arith) (p .1)))
+list-most line passes width most [] m first last h = omega arith
+list-most line passes width most (rule ∷ rules) m first last h =
+    let p = both (passes rule) (every passes rules) h in
+    rw (length-append, mul-suc width (length rules))
+    (omega (arith, most m rule first (omega arith) (p .0), list-most line passes width most rules (suc m) (omega arith) (omega arith) (p .1)))
+
+-- and where that of one rule has as many, the lines of that rule alone
+pub longest-lines : (line : ℕ → Rule → List ℕ) (rule : Rule) (width : ℕ) → ((n : ℕ) → length (line n rule) ≡ width + length (digitsOf n))
+    → (n m : ℕ) → length (listText line m (replicate n rule)) ≡ width * n + digitSum n m
+unfolding listText digitSum
+longest-lines line rule width exact zero m = omega arith
+longest-lines line rule width exact (suc n) m = rw (length-append, mul-suc width n) (omega (arith, exact m, longest-lines line rule width exact n (suc m)))
 
 -- ---- the lines of rights
 
@@ -198,7 +212,7 @@ lines-most rights rules good =
     let all : length rules + (128 - length rules) ≡ 128 = omega arith in
     let digits : digitSum (length rules) 1 ≤ digitSum 128 1 = rw all at (sum-grows (length rules) (128 - length rules) 1) in
     let first : length (rightsText 0 rights) ≤ widthSum 6 0 = rw kinds at (rights-most 0 rights (omega arith) (λ i h. good .in-range i (omega arith))) in
-    rw length-append (omega (arith, first, widths-all, list-most rules 1 (omega arith) (omega arith) (good .accepted), digits, sum-all))
+    rw length-append (omega (arith, first, widths-all, list-most ruleText ruleAccepted 68 accepted-line rules 1 (omega arith) (omega arith) (good .accepted), digits, sum-all))
 
 -- no list that 40 does not refuse has a longer text
 pub rules-most : (list : RuleList) → length (list .rights) ≡ 6 → listAccepted list ≡ true → length (textOf list) ≤ 9085
@@ -227,14 +241,9 @@ longest-line n =
     ∙ opened (drop 7 (formAt ruleForms 16)) (n ∷ 31 ∷ 10001000000 ∷ 10001000000 ∷ 10001000000 ∷ 10001000000 ∷ [])
     ∙ omega (arith, longest-rest)
 
-longest-lines : (n m : ℕ) → length (listText ruleText m (replicate n longestRule)) ≡ 68 * n + digitSum n m
-unfolding listText digitSum
-longest-lines zero m = refl
-longest-lines (suc n) m = rw length-append (omega (arith, longest-line m, longest-lines n (suc m)))
-
 longest-rules : length (listText ruleText 1 longestRules) ≡ 8980
 unfolding longestRules
-longest-rules = omega (arith, longest-lines 128 1, sum-all)
+longest-rules = omega (arith, longest-lines ruleText longestRule 68 longest-line 128 1, sum-all)
 
 longest-rights : length (rightsText 0 longestRights) ≡ 105
 unfolding longestRights rightsText rightText fill itemText textBy isSlot kindOf lookup formAt linesIn ruleForms digitsOf digitsWithin

@@ -1,5 +1,5 @@
--- The state and the rule list with the longest texts: that no other has a longer one is proved in proofs/StateSizes.antt and
--- proofs/RuleSizes.antt. Assumes nothing.
+-- The state and the rule list with the longest texts, and the one with the longest policies: that no other has a longer one is proved in
+-- proofs/StateSizes.antt, proofs/RuleSizes.antt and proofs/PolicySizes.antt. Assumes nothing.
 use mathlib.Core.Bool.{true}
 use mathlib.Core.List.{List, [], _∷_}
 use Prim.Native.Nat.{ℕ}
@@ -9,7 +9,7 @@ use Rattle.places.specs.declared.Position.the-variants.{Known}
 use Rattle.places.specs.declared.Shape.the-variants.{Box}
 use Rattle.places.specs.declared.Side.the-variants.{Outside}
 use Rattle.rules.specs.declared.families.Rule.{Rule}
-use Rattle.rules.specs.declared.families.Rule.the-variants.{LocationContext}
+use Rattle.rules.specs.declared.families.Rule.the-variants.{Dependency, LocationContext}
 use Rattle.rules.specs.declared.rights.Right.the-variants.{Permission}
 use Rattle.rules.specs.declared.rights.RightSlot.{RightSlot}
 use Rattle.rules.specs.declared.sessions.Session.{Session}
@@ -49,6 +49,13 @@ longestRule = LocationContext 31 (Outside (Box (negsuc 999999) (negsuc 999999) (
 
 unfoldable pub longestRules : List Rule
 longestRules = replicate 128 longestRule
+
+-- 2026-06: of the five lines the longest, with roles of two digits
+abbrev pub longestPolicy : Rule
+longestPolicy = Dependency 31 30
+
+unfoldable pub longestPolicies : List Rule
+longestPolicies = replicate 128 longestPolicy
 
 -- 2026-05: every kind, with a permission of two digits
 unfoldable pub longestRights : List RightSlot
