@@ -1,5 +1,6 @@
-// Rule lists and saved states, read.
+// Rule lists, policies and saved states, read.
 use enforcement::State;
+use rule_text::LoadedRules;
 use rules::RuleList;
 
 // The rules that were read last, and the state.
@@ -23,12 +24,20 @@ pub(crate) fn loaded_by(loaded: Loaded, kind: usize, text: &[u8], number: u64) -
         0 => read_rules(loaded, text),
         1 => read_saved(loaded, text),
         2 => with_length(loaded, number),
-        _ => with_time(loaded, number),
+        3 => with_time(loaded, number),
+        _ => read_policies(loaded, text),
     }
 }
 
 fn read_rules(loaded: Loaded, text: &[u8]) -> Loaded {
-    let read = rule_text::read_rules(text);
+    with_list(loaded, rule_text::read_rules(text))
+}
+
+fn read_policies(loaded: Loaded, text: &[u8]) -> Loaded {
+    with_list(loaded, policy_text::read_policies(text))
+}
+
+fn with_list(loaded: Loaded, read: LoadedRules) -> Loaded {
     show(read.number, read.line);
     let list = read.list;
     let state = loaded.state;

@@ -1,9 +1,11 @@
-// Rule lists, saved states and responses, written where so many bytes are lent.
+// Rule lists, in either language, saved states and responses, written where so many bytes are lent.
 ghost use mathlib.Core.Path.{_≡_};
 ghost use lib.ListN.{length};
 use crate::quoting;
 use crate::reading::Loaded;
 use forms::Written;
+use policy_text::PoliciesWritten;
+use rules::RuleList;
 
 // What a space holds before.
 const UNTOUCHED: u8 = b'.';
@@ -21,9 +23,9 @@ pub(crate) fn written(loaded: Loaded, kind: usize, text: &[u8], room: usize) {
     let written = lend(loaded, kind, text, &mut space, room);
     let front = quoting::front(&space, length_of(written));
     match kind {
-        4 => quoting::show(front),
-        5 => show(written),
-        6..=8 => show_space(written, front, quoting::front(&space, 1024)),
+        5 => quoting::show(front),
+        6 => show(written),
+        7..=10 => show_space(written, front, quoting::front(&space, 1024)),
         _ => no_kind(),
     }
 }
@@ -39,9 +41,24 @@ fn written_by(loaded: Loaded, kind: usize, text: &[u8], out: &mut [u8]) -> Writt
     let list = loaded.list;
     let state = loaded.state;
     match kind {
-        6 => rule_text::write_rules(list, out),
-        7 => state_text::write_state(state, out),
+        7 => rule_text::write_rules(list, out),
+        8 => state_text::write_state(state, out),
+        10 => write_policies(list, out),
         _ => texts::respond(text, out),
+    }
+}
+
+// The place of a refusal is shown before its number.
+fn write_policies(list: RuleList, out: &mut [u8]) -> Written {
+    let written = policy_text::write_policies(list, out);
+    match written {
+        PoliciesWritten::Length(length) => Written::Length(length),
+        PoliciesWritten::Refused(number, place) => {
+            io::write_all(1, b"place ");
+            io::print_decimal(1, place);
+            io::write_all(1, b", ");
+            Written::Refused(number)
+        }
     }
 }
 
