@@ -8,7 +8,6 @@ use lib.Seq.{sets}
 use lib.Dec.{eqb}
 use Rattle.forms.specs.declared.writing.Written.{Written}
 use Rattle.forms.specs.declared.writing.Written.the-variants.{Length, Refused}
-use Rattle.rule_text.specs.Reading.{readLines, loadedOf}
 use Rattle.rule_text.specs.declared.reading.LoadedRules.{LoadedRules}
 use Rattle.texts.specs.SavedRuns.{Texts, holding, refusedIn, refusedReport, writtenReport, lentTo, SavedOutcome, answersOf, stateOf, runReport}
 use Rattle.texts.specs.declared.saved_runs.Text.{Text}

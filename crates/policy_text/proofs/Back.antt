@@ -20,7 +20,7 @@ use Rattle.rule_text.proofs.Loaded.{loaded-whole, loaded-bad, zero-or-some, loa
 use Rattle.policy_text.specs.Lines.{policyText}
 use Rattle.policy_text.specs.Reading.{policiesRead, readPolicies}
 use Rattle.policy_text.specs.Writing.{policiesText}
-use Rattle.policy_text.specs.Causes.{OfFiveKinds, Cause, GoodPolicies, FirstBad, NoRight, Expressible}
+use Rattle.policy_text.specs.Causes.{OfFiveKinds, Cause, GoodPolicies, FirstBad, Expressible}
 use Rattle.policy_text.proofs.Lists.{good-lines, GivenNumber, cause-number, cause-some, reads-lines, linesOf, reads-whole, reads-until}
 
 -- ---- what is loaded

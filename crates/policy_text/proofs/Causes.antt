@@ -3,9 +3,9 @@
 -- Assumes nothing.
 use mathlib.Core.Path.{_≡_, refl, sym, ap, _∙_, subst}
 use mathlib.Core.Bool.{Bool, true, false, not, cond, _&&_}
-use mathlib.Core.Logic.{_↔_, _⊎_, inl, inr}
-use mathlib.Core.List.{List, _++_}
-use Prim.Native.Nat.{ℕ, _≤_, _<_}
+use mathlib.Core.Logic.{_↔_}
+use mathlib.Core.List.{List}
+use Prim.Native.Nat.{ℕ, _<_}
 use native.Mathlib.Omega.{arith}
 use lib.ListN.{length, drop, getD}
 use lib.Dec.{eqb}
@@ -25,7 +25,7 @@ use Rattle.rule_text.proofs.NumberedLines.{LineStands, Language}
 use Rattle.rule_text.proofs.LineTables.{number-bounds, text-same, made-in-range, rule-line-in-range, rule-same, found-rule, text-some}
 use Rattle.policy_text.specs.Lines.{policyForms, policyCount, policyOf, hasPolicy, policyText, ruleOfPolicy}
 use Rattle.policy_text.specs.Reading.{policyAfter, readPolicy}
-use Rattle.policy_text.specs.Causes.{OfFiveKinds, Stands, PolicyStands, Cause, outside-subset, out-of-range, not-next, same-twice}
+use Rattle.policy_text.specs.Causes.{Stands, PolicyStands, Cause, outside-subset, out-of-range, not-next, same-twice}
 use Rattle.policy_text.proofs.Table.{table-length, table-distinct, made-sound, has-kind, kind-has, policy-table}
 
 -- the rules that can stand in a line: accepted, and of the five kinds

@@ -1,6 +1,6 @@
 -- A whole text of policies: what reading its lines gives, and what text gives it.
 -- Assumes nothing.
-use mathlib.Core.Path.{_≡_, refl, sym, ap, _∙_}
+use mathlib.Core.Path.{_≡_, refl}
 use mathlib.Core.Bool.{Bool, true, _&&_}
 use mathlib.Core.Logic.{_⊎_}
 use mathlib.Core.List.{List, [], _∷_, _++_}
@@ -12,13 +12,13 @@ use Rattle.sets.proofs.Booleans.{both, both-true}
 use Rattle.rules.specs.Acceptance.{ruleAccepted, every}
 use Rattle.rules.specs.declared.families.Rule.{Rule}
 use Rattle.rule_text.specs.Lines.{filler, listText}
-use Rattle.rule_text.specs.Reading.{LinesRead, RulesRead, readFrom, rightsThen, noRights}
+use Rattle.rule_text.specs.Reading.{LinesRead, readFrom, noRights}
 use Rattle.rule_text.specs.Causes.{GoodLines}
 use Rattle.rule_text.proofs.NumberedLines.{reads-from, lines-whole, lines-until}
 use Rattle.rule_text.proofs.Slots.{none-good}
 use Rattle.policy_text.specs.Lines.{hasPolicy, policyText}
-use Rattle.policy_text.specs.Reading.{readPolicy, noRightLines, policiesRead}
-use Rattle.policy_text.specs.Causes.{OfFiveKinds, Cause, outside-subset, out-of-range, not-next, same-twice, GoodPolicies}
+use Rattle.policy_text.specs.Reading.{readPolicy, policiesRead}
+use Rattle.policy_text.specs.Causes.{Cause, outside-subset, out-of-range, not-next, same-twice, GoodPolicies}
 use Rattle.policy_text.proofs.Table.{has-kind, kind-has}
 use Rattle.policy_text.proofs.Causes.{passes, policy-language}
 

@@ -1,11 +1,10 @@
 -- The loop of `read_policies`: what was read and what reading the rest gives are together what reading the text gives.
 -- Assumes nothing.
-use mathlib.Core.Path.{_≡_, refl, sym, ap, _∙_, subst}
+use mathlib.Core.Path.{_≡_, refl, sym, ap, _∙_}
 use mathlib.Core.List.{List, []}
 use Prim.Native.Nat.{ℕ, suc, _+_, _-_, _≤_, _<_}
-use native.Mathlib.Numerals.{add-one}
 use native.Mathlib.Omega.{arith}
-use lib.ListN.{length, take, drop, length-drop, length-replicate}
+use lib.ListN.{length, take, drop, length-drop}
 use Rattle.forms.proofs.Turns as turns
 use Rattle.rules.specs.declared.lists.RuleList.{RuleList}
 use Rattle.rule_text.specs.Lines.{rightLines}
@@ -13,7 +12,6 @@ use Rattle.rule_text.specs.Reading.{numberIn, readFrom, noRights, listOf, unuse
 use Rattle.rule_text.specs.declared.reading.Parsed.{Parsed}
 use Rattle.rule_text.specs.declared.reading.LineRead.{LineRead}
 use Rattle.rule_text.specs.declared.reading.LineRead.the-variants.{Good, Bad}
-use Rattle.rule_text.specs.declared.reading.Prefix.{Prefix}
 use Rattle.rule_text.proofs.LineLoop.{onto, Inv, withRule, fits, small, turn, stop, end}
 use Rattle.rule_text.proofs.Prefixes.{start-same}
 use Rattle.rule_text.proofs.Loaded.{load-bad, load-whole}

@@ -23,7 +23,6 @@ use Rattle.rule_text.specs.Lines.{filler, lineCount}
 use Rattle.policy_text.specs.Lines.{hasPolicy}
 use Rattle.policy_text.specs.Writing.{withoutFrom, hasRightLine, withoutPolicy}
 use Rattle.policy_text.specs.Causes.{NoRight, HasNoLine, right-line, lowest-rule, Expressible}
-use Rattle.policy_text.specs.declared.writing.WithoutPolicy.{WithoutPolicy}
 use Rattle.policy_text.specs.declared.writing.WithoutPolicy.the-variants.{Nothing, Lowest}
 use Rattle.policy_text.proofs.Table.{has-kind, kind-has}
 use Rattle.policy_text.proofs.Lists.{every-at, at-every}

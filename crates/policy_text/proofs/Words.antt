@@ -1,6 +1,6 @@
 -- The text of a rule is the policy that the request prints for it.
 -- Assumes nothing.
-use mathlib.Core.Path.{_≡_, refl}
+use mathlib.Core.Path.{_≡_}
 use mathlib.Core.List.{append-assoc}
 use Prim.Native.Nat.{ℕ}
 use Rattle.forms.specs.Kinds.{kindOf, lookup, isSlot}

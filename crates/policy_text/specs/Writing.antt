@@ -21,6 +21,10 @@ use Rattle.policy_text.specs.declared.writing.PoliciesWritten.the-varian
 
 -- ---- what has no policy
 
+abbrev pub isNothing : WithoutPolicy → Bool
+isNothing Nothing = true
+isNothing (Lowest n) = false
+
 -- "the lowest rule that has no such line", the first of the rules being rule n
 unfoldable pub withoutFrom : ℕ → List Rule → WithoutPolicy
 withoutFrom n [] = Nothing
@@ -50,10 +54,6 @@ unlessWithout (Lowest n) written = Refused 56 n
 -- "in the order 40, 56, 18"
 unfoldable pub writtenPolicies : RuleList → List ℕ → PoliciesWritten
 writtenPolicies list lent = cond (listAccepted list) (unlessWithout (withoutPolicy list) (policiesFitted (policiesText list) lent)) (Refused 40 0)
-
-abbrev pub isNothing : WithoutPolicy → Bool
-isNothing Nothing = true
-isNothing (Lowest n) = false
 
 unfoldable pub lentAfterPolicies : RuleList → List ℕ → List ℕ
 lentAfterPolicies list lent = lentIf (listAccepted list && isNothing (withoutPolicy list)) (policiesText list) lent

@@ -1,7 +1,6 @@
 // Writing a rule list as policies: 40, then 56, then 18, or its text.
 ghost use mathlib.Core.Path.{_≡_};
 ghost use Prim.Native.Nat.{_≤_};
-ghost use Rattle.sets.specs.Sets.{any};
 ghost use Rattle.forms.specs.Writing.{Wrote};
 ghost use Rattle.rules.specs.Acceptance.{rulesOf};
 ghost use Rattle.rule_text.specs.Lines.{listText};

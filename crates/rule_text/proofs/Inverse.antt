@@ -1,18 +1,17 @@
 -- A rule's line and a line's rule undo each other, where 11 passes.
 -- Assumes nothing.
-use mathlib.Core.Path.{_≡_, refl, sym, ap, _∙_, subst, subst⁻¹}
-use mathlib.Core.Bool.{Bool, true, _&&_}
+use mathlib.Core.Path.{_≡_, refl, ap}
+use mathlib.Core.Bool.{Bool, true}
 use mathlib.Core.List.{List, [], _∷_, _++_}
 use Prim.Native.Nat.{ℕ, _+_, _≤_, _<_}
 use native.Mathlib.Omega.{arith}
 use lib.ListN.{length, take, getD}
-use lib.Dec.{leb, ltb, eqb}
+use lib.Dec.{ltb}
 use lib.IntN.{ℤ, pos, negsuc}
-use borrow.Author.Tests.{leb-true, ltb-true, le-leb, eqb-true}
-use Rattle.sets.proofs.Booleans.{both, both-true, left-true, right-true}
+use borrow.Author.Tests.{ltb-true}
 use Rattle.forms.specs.Numbers.{isDigit, signedCode, coordinateOf}
-use Rattle.forms.specs.Kinds.{kindOf, lookup, isSlot, inRangeBy, inRange}
-use Rattle.forms.specs.Forms.{head, tail, fill, allInRange}
+use Rattle.forms.specs.Kinds.{kindOf, lookup, isSlot}
+use Rattle.forms.specs.Forms.{fill, allInRange}
 use Rattle.forms.specs.Tables.{linesIn, formAt, found, distinct, startsOf}
 use Rattle.calendar.specs.declared.terms.Term.the-variants.{Dates, Week, Months, Nth, Every}
 use Rattle.places.specs.declared.Shape.the-variants.{Circle, Box}
@@ -20,16 +19,13 @@ use Rattle.places.specs.declared.Side.the-variants.{Inside, Outside}
 use Rattle.rules.specs.Acceptance.{ruleInRange}
 use Rattle.rules.specs.declared.families.Rule.{Rule}
 use Rattle.rules.specs.declared.families.Rule.the-variants.{Prerequisite, MaxUsers, MaxRoles, MaxPermissions, MaxActive, StaticSeparation, DynamicSeparation, Dependency, TimeContext, LocationContext, HistorySeparation, BindingOfDuty}
-use Rattle.rule_text.specs.Lines.{ruleForms, ruleFormCount, line, lineOf, lineText, ruleText, narrow, ruleOfForm}
-use Rattle.forms.specs.declared.tables.Found.{Found}
+use Rattle.rule_text.specs.Lines.{ruleForms, ruleFormCount, lineOf, ruleText, ruleOfForm}
 use Rattle.rule_text.specs.declared.lines.Line.{Line}
-use Rattle.forms.proofs.Finding.{found-hits, found-written}
-use Rattle.forms.proofs.Marks.{range-fits}
 use Rattle.rule_text.proofs.LineTables.{isRuleForm, HoldsAll, OwnLine, LineTable}
 use Rattle.rule_text.proofs.LineTables as tables
-use Rattle.rule_text.proofs.Marks.{marksIn, valuesFor, rangesHold, values-by-marks, ranges-by-marks, padded, padded-in-range, padded-text}
-use Rattle.rule_text.proofs.Values.{narrow-same, heldFor, holdable, all-held, everyForm, table-length, rule-form-at, marksAt, line-held}
-use Rattle.rule_text.proofs.Ranges.{IsShort, IsShortRule, line-in-range, in-range-short, made-short, coordinate-short}
+use Rattle.rule_text.proofs.Marks.{marksIn, valuesFor, padded}
+use Rattle.rule_text.proofs.Values.{heldFor, holdable, everyForm, table-length, rule-form-at, marksAt, line-held}
+use Rattle.rule_text.proofs.Ranges.{IsShort, IsShortRule, line-in-range, made-short, coordinate-short}
 
 -- ---- the table, as computed tests
 

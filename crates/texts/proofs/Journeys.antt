@@ -1,14 +1,14 @@
 -- THEOREMS on rule lists from one language to the other: each refusal for its own cause, what 18 needs, and both journeys there and back.
 -- Assumes nothing.
-use mathlib.Core.Path.{_≡_, refl, sym, ap, _∙_, subst}
+use mathlib.Core.Path.{_≡_, refl, ap, _∙_}
 use mathlib.Core.Bool.{Bool, true, false, cond}
-use mathlib.Core.Logic.{_↔_, _⊎_, inl, inr, ⊎-elim}
+use mathlib.Core.Logic.{_↔_, _⊎_, ⊎-elim}
 use mathlib.Core.List.{List}
 use Prim.Native.Nat.{ℕ, _≤_, _<_}
 use native.Mathlib.Omega.{arith}
 use lib.ListN.{length}
 use lib.Dec.{eqb, leb}
-use borrow.Author.Tests.{le-leb, eq-eqb, ne-eqb, eqb-true, eqb-false}
+use borrow.Author.Tests.{le-leb, eq-eqb, ne-eqb, eqb-true}
 use Rattle.rule_text.specs.Reading.{readRules}
 use Rattle.rule_text.specs.Writing.{textOf}
 use Rattle.rule_text.specs.declared.reading.LoadedRules.{LoadedRules}
@@ -20,7 +20,7 @@ use Rattle.policy_text.specs.Causes.{FirstBad, HasNoLine, Expressible}
 use Rattle.policy_text.specs.declared.writing.WithoutPolicy.{WithoutPolicy}
 use Rattle.policy_text.specs.declared.writing.WithoutPolicy.the-variants.{Nothing, Lowest}
 use Rattle.policy_text.proofs.Missing.{expressible-means, lacks-means}
-use Rattle.policy_text.proofs.Back.{first-bad, read-accepted}
+use Rattle.policy_text.proofs.Back.{first-bad}
 use Rattle.policy_text.proofs.Journeys.{policies-survive, rules-survive}
 use Rattle.texts.specs.SavedRuns.{refusedReport, writtenReport, outputReport, listReport}
 use Rattle.texts.specs.Policies.{rulesFromReport, unlessLacking, policiesFromReport}

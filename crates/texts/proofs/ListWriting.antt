@@ -1,12 +1,12 @@
 -- A rule list that was read, in either language, and is written in either. Assumes nothing.
-use mathlib.Core.Path.{_≡_, refl, sym, ap, _∙_}
+use mathlib.Core.Path.{_≡_, sym, ap, _∙_}
 use mathlib.Core.Bool.{true}
 use mathlib.Core.Logic.{_⊎_, ⊎-elim}
 use mathlib.Core.List.{List, _++_}
 use Prim.Native.Nat.{ℕ, _<_}
 use native.Mathlib.Omega.{arith}
 use lib.ListN.{length, drop}
-use lib.Dec.{eqb, leb}
+use lib.Dec.{eqb}
 use borrow.Author.Tests.{le-leb, lt-leb, eq-eqb, ne-eqb}
 use Rattle.sets.proofs.Booleans.{clash}
 use Rattle.rules.specs.Acceptance.{listAccepted}
@@ -19,7 +19,7 @@ use Rattle.rule_text.proofs.Room.{refused-40, refused-18, refused-number, refus
 use Rattle.forms.specs.declared.writing.Written.{Written}
 use Rattle.forms.specs.declared.writing.Written.the-variants.{Length, Refused}
 use Rattle.forms.proofs.Room.{lent-written}
-use Rattle.policy_text.specs.Writing.{withoutPolicy, policiesText, writtenPolicies, lentAfterPolicies}
+use Rattle.policy_text.specs.Writing.{policiesText, writtenPolicies, lentAfterPolicies}
 use Rattle.policy_text.specs.declared.writing.PoliciesWritten.{PoliciesWritten}
 use Rattle.policy_text.specs.declared.writing.PoliciesWritten.the-variants as policies
 use Rattle.policy_text.proofs.Missing.{expressible-means, lacks-means}

@@ -2,9 +2,9 @@
 use mathlib.Core.Path.{_≡_, refl, sym, ap, _∙_, subst}
 use mathlib.Core.Bool.{true, _&&_}
 use mathlib.Core.List.{List, [], _∷_, _++_}
-use Prim.Native.Nat.{ℕ, zero, suc, _+_, _-_, _*_, _≤_, _<_}
+use Prim.Native.Nat.{ℕ, zero, suc, _+_, _-_, _≤_, _<_}
 use native.Mathlib.Omega.{arith}
-use lib.ListN.{length, drop, getD, replicate, length-append, length-replicate, getD-replicate}
+use lib.ListN.{length, drop, replicate, length-append, length-replicate, getD-replicate}
 use lib.Dec.{leb}
 use borrow.Author.Tests.{leb-true, lt-leb}
 use Rattle.sets.proofs.Booleans.{both}
@@ -28,7 +28,7 @@ use Rattle.policy_text.proofs.Table.{policy-table}
 use Rattle.policy_text.proofs.Causes.{passes}
 use Rattle.policy_text.proofs.Lists.{good-passes}
 use Rattle.policy_text.proofs.Missing.{expressible-means}
-use Rattle.policy_text.proofs.Back.{list-of-rules, list-is-accepted, list-expressible, accepted-policies, write-back, read-accepted, read-expressible}
+use Rattle.policy_text.proofs.Back.{list-of-rules, list-expressible, accepted-policies, write-back, read-accepted, read-expressible}
 use Rattle.policy_text.proofs.Journeys.{own-back}
 use Rattle.texts.specs.Sizes.{longestPolicy, longestPolicies}
 use Rattle.texts.specs.SavedRuns.{refusedReport, outputReport}

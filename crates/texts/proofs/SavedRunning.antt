@@ -2,13 +2,11 @@
 use mathlib.Core.Path.{_≡_, refl, sym, ap, _∙_, subst, subst⁻¹}
 use mathlib.Core.Bool.{Bool, true, false, cond}
 use mathlib.Core.List.{List, [], _∷_, _++_}
-use mathlib.Core.Logic.{⊎-elim}
-use Prim.Native.Nat.{ℕ, zero, suc, _+_, _*_, _≤_, _<_}
+use Prim.Native.Nat.{ℕ, zero, suc, _+_, _≤_, _<_}
 use native.Mathlib.Omega.{arith}
 use lib.ListN.{length, take, drop}
-use lib.Dec.{eqb, ltb, leb}
-use borrow.Author.Tests.{lt-ltb, le-ltb, le-leb, lt-leb, leb-true, leb-false, eqb-true, eqb-false, eq-eqb, ne-eqb}
-use Rattle.sets.proofs.Booleans.{clash}
+use lib.Dec.{eqb, leb}
+use borrow.Author.Tests.{lt-ltb, le-ltb, le-leb, lt-leb, leb-false, eqb-false, eq-eqb, ne-eqb}
 use Rattle.rules.specs.Acceptance.{rulesOf, listAccepted}
 use Rattle.rules.specs.declared.lists.RuleList.{RuleList}
 use Rattle.steps.specs.declared.lowest.Lowest.{Lowest}
@@ -20,14 +18,10 @@ use Rattle.enforcement.specs.Runs.{lastState}
 use Rattle.enforcement.specs.Reached.{Accepted, Lending}
 use Rattle.enforcement.specs.declared.states.State.{State}
 use Rattle.steps.specs.declared.steps.Step.{Step}
-use Rattle.enforcement.specs.declared.states.Next.{Next}
 use Rattle.enforcement.proofs.Reaching.{Good, step-accepted, step-lending}
 use Rattle.rule_text.specs.Reading as ruleText
-use Rattle.rule_text.specs.Writing.{textOf, writtenRules, lentAfterRules}
 use Rattle.rule_text.specs.declared.reading.LoadedRules.{LoadedRules}
-use Rattle.rule_text.proofs.Loaded.{zero-or-some, loaded-list}
-use Rattle.rule_text.proofs.Back.{write-back, read-accepted}
-use Rattle.rule_text.proofs.Room.{refused-40, refused-18, refused-number, refused-leaves, written-length as written-rules}
+use Rattle.rule_text.proofs.Back.{read-accepted}
 use Rattle.state_text.specs.Reading.{Loading, loaded, refused, unlessBroken, underRules, readLines, readState, loadedOf}
 use Rattle.state_text.specs.Saving.{savedText, writtenState, lentState}
 use Rattle.state_text.specs.declared.reading.LoadedState.{LoadedState}
@@ -40,13 +34,11 @@ use Rattle.step_text.specs.Answers.{answersText}
 use Rattle.step_text.specs.Running.{textRun}
 use Rattle.step_text.proofs.Runs.{Runs, answers-run, Positive, positive}
 use Rattle.step_text.proofs.Sizes.{Sized, sized, answers-short}
-use Rattle.forms.specs.Writing.{lastPlace, Wrote, writtenOf, lentAfter}
-use Rattle.forms.specs.declared.writing.Written.{Written}
+use Rattle.forms.specs.Writing.{Wrote, writtenOf}
 use Rattle.forms.specs.declared.writing.Written.the-variants.{Length, Refused}
 use Rattle.forms.proofs.Puts.{measure, at-front}
-use Rattle.forms.proofs.Room.{lent-written as lent-text}
 use Rattle.texts.proofs.Copying.{kept-whole}
-use Rattle.texts.specs.SavedRuns.{Texts, holding, refusedIn, stateUnder, rulesFirst, loadTexts, loadedTexts, rulesIn, refusedReport, writtenReport, lentTo, outputReport, rulesCopyReport, savedReport, stateIn, copyReport, SavedOutcome, ranFrom, refusedAt, stepsUnder, stepsAfter, savedOutcome, answersOf, stateOf, fitted, runReport, Ran}
+use Rattle.texts.specs.SavedRuns.{Texts, holding, refusedIn, stateUnder, rulesFirst, loadTexts, loadedTexts, rulesIn, refusedReport, writtenReport, lentTo, savedReport, stateIn, copyReport, SavedOutcome, ranFrom, refusedAt, stepsUnder, stepsAfter, savedOutcome, answersOf, stateOf, fitted, runReport, Ran}
 use Rattle.texts.specs.declared.saved_runs.Text.{Text}
 use Rattle.texts.specs.declared.saved_runs.Text.the-variants as Text
 use Rattle.texts.specs.declared.saved_runs.LoadedTexts.{LoadedTexts}

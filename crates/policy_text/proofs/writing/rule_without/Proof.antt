@@ -1,12 +1,11 @@
 -- `policy_text::writing::rule_without` meets its contract.
 -- Assumes nothing.
-use mathlib.Core.Path.{_≡_, refl, sym, _∙_}
-use Prim.Native.Nat.{_≤_, _-_}
+use mathlib.Core.Path.{_≡_, sym, _∙_}
+use Prim.Native.Nat.{_-_}
 use native.Mathlib.Omega.{arith}
 use lib.ListN.{length, length-map}
 use borrow.Author.Tests.{not-true, not-false}
 use borrow.Author.Needs.{needs}
-use Rattle.policy_text.specs.Writing.{withoutFrom}
 use Rattle.policy_text.proofs.Missing.{Passed, passed-start, passed-next, passed-all, passed-found}
 use Rattle.policy_text.proofs.writing.rule_without.Statement.{statement}
 use Rattle.policy_text.proofs.writing.rule_without.Tie as tie

@@ -1,7 +1,7 @@
 -- `rule_text::writing::rules_length` meets its contract.
 -- Assumes nothing.
 use mathlib.Core.Path.{_≡_, sym, _∙_}
-use mathlib.Core.Bool.{true, false}
+use mathlib.Core.Bool.{true}
 use lib.ListN.{length, length-map}
 use borrow.Author.Tests.{not-true, not-false}
 use borrow.Author.Needs.{needs}
