@@ -25,7 +25,7 @@ policyAfter n f =
     (cond (not (allInRange (formAt policyForms (f .form)) (f .values))) (Bad 11)
     -- "rule number not the next"
     (cond (not (eqb (getD (f .values) 0 0) n)) (Bad 12)
-    -- "same role .. twice in a rule" is 13
+    -- "same role .. twice in a rule" is 13; 14 is about terms and shapes, and no policy has one
     (ruleRead (ruleOfPolicy (f .form) (f .values)) (f .length))))
 
 unfoldable pub readPolicy : ℕ → List ℕ → LineRead
