@@ -7,6 +7,7 @@ mod writing;
 
 pub use lines::Line;
 pub use lines::filler;
+pub use lines::line_of;
 pub use lines::narrow;
 pub use lines::short_line;
 pub use reading::LineRead;

@@ -1,0 +1,5 @@
+pub mod EqualRules
+pub mod Rules
+pub mod Rights
+pub mod Loops
+pub mod JoinedLists
