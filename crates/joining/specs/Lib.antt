@@ -1,2 +1,3 @@
 pub mod Joining
 pub mod Claims
+pub mod Lent

@@ -3,3 +3,4 @@ pub mod SavedRuns
 pub mod Causes
 pub mod Sizes
 pub mod Policies
+pub mod JoinedTexts

@@ -1,8 +1,11 @@
-// Texts in, texts out: the program's whole work on slices, steps run over a saved state, and rule lists from policies and back.
+// Texts in, texts out: the program's whole work on slices, steps run over a saved state, rule lists from policies and back, and two of them
+// joined.
+mod joined_rules;
 mod policies;
 mod responses;
 mod saved_runs;
 
+pub use joined_rules::join_rules;
 pub use policies::policies_from_rules;
 pub use policies::rules_from_policies;
 pub use responses::MOST_BYTES;

@@ -10,23 +10,15 @@ ghost use Rattle.texts.specs.Policies.{rulesFromReport, policiesFromRepo
 use crate::saved_runs::Report;
 use crate::saved_runs::Text;
 use crate::saved_runs::refused_report;
+use crate::saved_runs::write_list;
 use crate::saved_runs::written_report;
-use forms::Written;
 use policy_text::PoliciesWritten;
 
 // Policies, read and written as our rule list. Refused are the policies by their first bad line, then a space that is too short (18).
 pub fn rules_from_policies(policies: &[u8], rules: &mut [u8]) -> Report
     ensures { λ r. ⌜ (r ≡ rulesFromReport (loadedOf (policiesRead (now (policies .entry)))) (length (now (rules .entry)))) × (now (rules .exit) ≡ lentTo r (textOf (loadedOf (policiesRead (now (policies .entry))) .list)) (now (rules .entry))) ⌝ }
 {
-    let read = policy_text::read_policies(policies);
-    if read.number != 0 {
-        return refused_report(Text::Policies, read.number, read.line);
-    }
-    let list = read.list;
-    let Written::Length(written) = rule_text::write_rules(list, rules) else {
-        return refused_report(Text::OutputSpace, 18, rule_text::rules_length(list));
-    };
-    written_report(written, 0)
+    write_list(Text::Policies, policy_text::read_policies(policies), rules)
 }
 
 // Our rule list, read and written as policies. Refused are the rules by their first bad line, then what has no policy (56), then a space

@@ -5,6 +5,7 @@ ghost use mathlib.Core.Bool.{true};
 ghost use Prim.Native.Nat.{_≤_};
 ghost use lib.ListN.{length, take};
 ghost use Rattle.forms.specs.Writing.{Wrote};
+ghost use Rattle.rules.specs.Acceptance.{listAccepted};
 ghost use Rattle.enforcement.specs.States.{fresh, stateAccepted};
 ghost use Rattle.enforcement.specs.Reached.{Accepted};
 ghost use Rattle.rule_text.specs.Reading.{readLines, loadedOf};
@@ -14,13 +15,14 @@ ghost use Rattle.state_text.specs.Saving.{savedText};
 ghost use Rattle.step_text.specs.Lines.{readSteps, badLine};
 ghost use Rattle.step_text.specs.Answers.{answersText};
 ghost use Rattle.step_text.specs.Running.{textRun};
-ghost use Rattle.texts.specs.SavedRuns.{stateUnder, loadTexts, loadedTexts, rulesIn, refusedReport, writtenReport, lentTo, rulesCopyReport, savedReport, stateIn, copyReport, stepsUnder, savedOutcome, Ran};
+ghost use Rattle.texts.specs.SavedRuns.{stateUnder, loadTexts, loadedTexts, rulesIn, refusedReport, writtenReport, lentTo, rulesCopyReport, listReport, savedReport, stateIn, copyReport, stepsUnder, savedOutcome, Ran};
 use crate::responses::MOST_BYTES;
 use enforcement::State;
 use forms::Written;
+use rule_text::LoadedRules;
 use rules::RuleList;
 
-// Which text or lent space a refusal is about.
+// Which text or lent space a refusal is about. Of two rule lists that are joined the first is the rules.
 pub enum Text {
     None,
     Rules,
@@ -29,6 +31,7 @@ pub enum Text {
     OutputSpace,
     StateSpace,
     Policies,
+    SecondRules,
 }
 
 // What two texts hold: number 0 with the list and the state; or the text that is refused, its number, its line (for 17 the rule), the list
@@ -42,7 +45,7 @@ pub struct LoadedTexts {
 }
 
 // Number 0 with the bytes of output and of state that were written; or the refusal with its text and place. The output is the answers to
-// steps, the copy of a rule list, or a rule list in the other language. The place is a line, for 17 and 56 a rule, for 18 the bytes that the
+// steps, the copy of a rule list, a rule list in the other language, or a joined one. The place is a line, for 17 and 56 a rule, for 18 the bytes that the
 // space needs.
 pub struct Report {
     pub text: Text,
@@ -138,17 +141,24 @@ fn copy_text(text: &[u8], out: &mut [u8]) -> usize
     i
 }
 
-// A rule list, read and written again. An accepted text is the text of its list, so that the copy needs as many bytes.
+// A rule list, read and written again.
 pub fn copy_rules(rules: &[u8], copy: &mut [u8]) -> Report
     ensures { λ r. ⌜ (r ≡ rulesCopyReport (loadedOf (readLines (now (rules .entry)))) (length (now (copy .entry)))) × (now (copy .exit) ≡ lentTo r (textOf (rulesIn (now (rules .entry)))) (now (copy .entry))) ⌝ }
 {
-    let read = rule_text::read_rules(rules);
+    write_list(Text::Rules, rule_text::read_rules(rules), copy)
+}
+
+// The text of a list that was read, or the refusal of what it was read from; then a space that is too short (18).
+pub(crate) fn write_list(source: Text, read: LoadedRules, out: &mut [u8]) -> Report
+    requires { ⌜ listAccepted (read .list) ≡ true ⌝ }
+    ensures { λ r. ⌜ (r ≡ listReport source read (length (now (out .entry)))) × (now (out .exit) ≡ lentTo r (textOf (read .list)) (now (out .entry))) ⌝ }
+{
     if read.number != 0 {
-        return refused_report(Text::Rules, read.number, read.line);
+        return refused_report(source, read.number, read.line);
     }
     let list = read.list;
-    let Written::Length(written) = rule_text::write_rules(list, copy) else {
-        return refused_report(Text::OutputSpace, 18, rules.len());
+    let Written::Length(written) = rule_text::write_rules(list, out) else {
+        return refused_report(Text::OutputSpace, 18, rule_text::rules_length(list));
     };
     written_report(written, 0)
 }
