@@ -142,6 +142,20 @@ module _ (first second : RuleList) where
       go (refused n p cause e) = inr (n, p, cause, e)
       go (whole accepted second-accepted kept few e) = inl (ap (λ (j : Joined). j .number) e)
 
+  -- what the place of a refusal is bounded by
+  pub join-place : (joinOf first second .place ≤ 128) × (joinOf first second .number ≡ 58 → joinOf first second .place < 6)
+  join-place = go which
+    where
+      at-cause : {number place : ℕ} → JoinRefused first second number place → (place ≤ 128) × (number ≡ 58 → place < 6)
+      at-cause (first-refused e) = (omega arith, λ h. omega arith)
+      at-cause (second-refused e f) = (omega arith, λ h. omega arith)
+      at-cause (rights-differ kind e f below differ none) = (omega arith, λ h. below)
+      at-cause (too-many n e f none below before after) = (omega (arith, below, list-few second f), λ h. omega arith)
+
+      go : Case → (joinOf first second .place ≤ 128) × (joinOf first second .number ≡ 58 → joinOf first second .place < 6)
+      go (refused n p cause e) = rw e (at-cause cause)
+      go (whole accepted second-accepted kept few e) = rw e (omega arith, λ h. omega arith)
+
   -- ---- what is joined
 
   pub record Whole : Type 0 where

@@ -15,3 +15,4 @@ pub mod Needed
 pub mod RuleSizes
 pub mod PolicySizes
 pub mod Journeys
+pub mod JoinedTexts

@@ -1,5 +1,5 @@
 -- A rule list that was read, in either language, and is written in either. Assumes nothing.
-use mathlib.Core.Path.{_≡_, sym, ap, _∙_}
+use mathlib.Core.Path.{_≡_, sym, ap, _∙_, subst}
 use mathlib.Core.Bool.{true}
 use mathlib.Core.Logic.{_⊎_, ⊎-elim}
 use mathlib.Core.List.{List, _++_}
@@ -10,11 +10,9 @@ use lib.Dec.{eqb}
 use borrow.Author.Tests.{le-leb, lt-leb, eq-eqb, ne-eqb}
 use Rattle.sets.proofs.Booleans.{clash}
 use Rattle.rules.specs.Acceptance.{listAccepted}
-use Rattle.rule_text.specs.Reading.{readLines, readRules}
 use Rattle.rule_text.specs.Writing.{textOf, rulesLength, writtenRules, lentAfterRules}
 use Rattle.rule_text.specs.declared.reading.LoadedRules.{LoadedRules}
-use Rattle.rule_text.proofs.Loaded.{zero-or-some, loaded-list}
-use Rattle.rule_text.proofs.Back.{write-back}
+use Rattle.rule_text.proofs.Loaded.{zero-or-some}
 use Rattle.rule_text.proofs.Room.{refused-40, refused-18, refused-number, refused-leaves, written-length}
 use Rattle.forms.specs.declared.writing.Written.{Written}
 use Rattle.forms.specs.declared.writing.Written.the-variants.{Length, Refused}
@@ -31,70 +29,61 @@ use Rattle.texts.specs.declared.saved_runs.Text.{Text}
 use Rattle.texts.specs.declared.saved_runs.Text.the-variants as Text
 use Rattle.texts.specs.declared.saved_runs.Report.{Report}
 
--- the copy of a rule list takes as many bytes as the list itself
-pub copied-length : (rules : List ℕ) {read : LoadedRules} → read ≡ readRules rules → read .number ≡ 0 → length rules ≡ length (textOf (readRules rules .list))
-copied-length rules e z =
-    ap length (sym (write-back rules (readRules rules .list) (loaded-list (readLines rules) (sym (ap (λ (l : LoadedRules). l .number) e) ∙ z))))
+pub some : {n : ℕ} → (n ≡ 0 → ⊥) → 0 < n
+some {n} other = ⊎-elim (λ z. absurd (other z)) (λ more. more) (zero-or-some n)
 
--- what was read, and a lent space
+-- ---- written as our text
+
+-- what was read of a source, and a lent space
+module _ (source : Text) (read : LoadedRules) (lent : List ℕ) where
+  abbrev ListWritten : Report → List ℕ → Type 0
+  ListWritten r lent′ = (r ≡ listReport source read (length lent)) × (lent′ ≡ lentTo r (textOf (read .list)) lent)
+
+  pub list-refused : (read .number ≡ 0 → ⊥) → {r : Report} → r ≡ refusedReport source (read .number) (read .line) → ListWritten r lent
+  unfolding listReport
+  list-refused n {r} q = (q ∙ rw (ne-eqb (read .number) 0 n), refused-lent r (textOf (read .list)) lent (rw q (some n)))
+
+  module _ (accepted : listAccepted (read .list) ≡ true) (z : read .number ≡ 0) {lent′ : List ℕ} (left : lent′ ≡ lentAfterRules (read .list) lent) where
+    as-output : listReport source read (length lent) ≡ outputReport (textOf (read .list)) (length lent)
+    unfolding listReport
+    as-output = rw (eq-eqb (read .number) 0 z)
+
+    -- there is no room, and the text needs so many bytes
+    pub list-short : (number : ℕ) → Refused number ≡ writtenRules (read .list) lent → {needed : ℕ} → needed ≡ rulesLength (read .list) → {r : Report}
+        → r ≡ refusedReport Text.OutputSpace 18 needed → ListWritten r lent′
+    unfolding outputReport rulesLength
+    list-short number f {needed} measured {r} q =
+        let short : length lent < length (textOf (read .list)) =
+        ⊎-elim (λ forty. clash accepted (refused-40 (read .list) lent .0 (sym f ∙ ap Refused forty)))
+        (λ eighteen. refused-18 (read .list) lent .0 (sym f ∙ ap Refused eighteen) .1)
+        (refused-number (read .list) lent number (sym f)) in
+        let kept : lent′ ≡ lent = left ∙ refused-leaves (read .list) lent number (sym f) in
+        let size : needed ≡ length (textOf (read .list)) = measured ∙ rw accepted in (
+          q ∙ ap (λ (n : ℕ). refusedReport Text.OutputSpace 18 n) size ∙ sym (as-output ∙ rw (lt-leb (length (textOf (read .list))) (length lent) short)),
+          kept ∙ refused-lent r (textOf (read .list)) lent (rw q (omega arith)),
+        )
+
+    lent-rules : (n : ℕ) → writtenRules (read .list) lent ≡ Length n → lentAfterRules (read .list) lent ≡ textOf (read .list) ++ drop n lent
+    unfolding writtenRules lentAfterRules
+    lent-rules n h = lent-written (textOf (read .list)) lent (listAccepted (read .list)) n h
+
+    pub list-written : (n : ℕ) → Length n ≡ writtenRules (read .list) lent → {r : Report} → r ≡ writtenReport n 0 → ListWritten r lent′
+    unfolding outputReport
+    list-written n f {r} q =
+        let fits = written-length (read .list) lent n .0 (sym f) in (
+          q ∙ ap (λ (m : ℕ). writtenReport m 0) (fits .2) ∙ sym (as-output ∙ rw (le-leb (length (textOf (read .list))) (length lent) (fits .1))),
+          written-lent r (textOf (read .list)) lent lent′ (rw q) (left ∙ lent-rules n (sym f) ∙ ap (λ (m : ℕ). textOf (read .list) ++ drop m lent) (fits .2)),
+        )
+
+-- what was read is what is meant
+pub list-given : (source : Text) {read given : LoadedRules} (lent lent′ : List ℕ) (r : Report) → read ≡ given → ListWritten source read lent r lent′ → ListWritten source given lent r lent′
+list-given source lent lent′ r e h = subst (λ (l : LoadedRules). ListWritten source l lent r lent′) e h
+
+-- ---- written as policies
+
 module _ {given read : LoadedRules} (e : read ≡ given) (lent : List ℕ) where
   same-number : read .number ≡ given .number
   same-number = ap (λ (l : LoadedRules). l .number) e
-
-  some : (read .number ≡ 0 → ⊥) → 0 < read .number
-  some n = ⊎-elim (λ z. absurd (n z)) (λ more. more) (zero-or-some (read .number))
-
-  -- ---- written as our text
-
-  module _ (source : Text) where
-    abbrev ListWritten : Report → List ℕ → Type 0
-    ListWritten r lent′ = (r ≡ listReport source given (length lent)) × (lent′ ≡ lentTo r (textOf (given .list)) lent)
-
-    pub list-refused : (read .number ≡ 0 → ⊥) → {r : Report} → r ≡ refusedReport source (read .number) (read .line) → ListWritten r lent
-    unfolding listReport
-    list-refused n {r} q = (q ∙ rw (← e, ne-eqb (read .number) 0 n), refused-lent r (textOf (given .list)) lent (rw q (some n)))
-
-    module _ (accepted : listAccepted (given .list) ≡ true) (z : read .number ≡ 0) {lent′ : List ℕ} (left : lent′ ≡ lentAfterRules (read .list) lent) where
-      as-output : listReport source given (length lent) ≡ outputReport (textOf (given .list)) (length lent)
-      unfolding listReport
-      as-output = rw (eq-eqb (given .number) 0 (sym same-number ∙ z))
-
-      there : {w : Written} → w ≡ writtenRules (read .list) lent → writtenRules (given .list) lent ≡ w
-      there f = sym (f ∙ ap (λ (l : LoadedRules). writtenRules (l .list) lent) e)
-
-      -- there is no room, and the text needs so many bytes
-      pub list-short : (number : ℕ) → Refused number ≡ writtenRules (read .list) lent → {needed : ℕ} → needed ≡ length (textOf (given .list)) → {r : Report}
-          → r ≡ refusedReport Text.OutputSpace 18 needed → ListWritten r lent′
-      unfolding outputReport
-      list-short number f {needed} measured {r} q =
-          let short : length lent < length (textOf (given .list)) =
-          ⊎-elim (λ forty. clash accepted (refused-40 (given .list) lent .0 (there f ∙ ap Refused forty)))
-          (λ eighteen. refused-18 (given .list) lent .0 (there f ∙ ap Refused eighteen) .1)
-          (refused-number (given .list) lent number (there f)) in
-          let kept : lent′ ≡ lent = left ∙ ap (λ (l : LoadedRules). lentAfterRules (l .list) lent) e ∙ refused-leaves (given .list) lent number (there f) in (
-            q ∙ ap (λ (n : ℕ). refusedReport Text.OutputSpace 18 n) measured ∙ sym (as-output ∙ rw (lt-leb (length (textOf (given .list))) (length lent) short)),
-            kept ∙ refused-lent r (textOf (given .list)) lent (rw q (omega arith)),
-          )
-
-      lent-rules : (n : ℕ) → writtenRules (given .list) lent ≡ Length n → lentAfterRules (given .list) lent ≡ textOf (given .list) ++ drop n lent
-      unfolding writtenRules lentAfterRules
-      lent-rules n h = lent-written (textOf (given .list)) lent (listAccepted (given .list)) n h
-
-      pub list-written : (n : ℕ) → Length n ≡ writtenRules (read .list) lent → {r : Report} → r ≡ writtenReport n 0 → ListWritten r lent′
-      unfolding outputReport
-      list-written n f {r} q =
-          let fits = written-length (given .list) lent n .0 (there f) in (
-            q ∙ ap (λ (m : ℕ). writtenReport m 0) (fits .2) ∙ sym (as-output ∙ rw (le-leb (length (textOf (given .list))) (length lent) (fits .1))),
-            written-lent r (textOf (given .list)) lent lent′ (rw q)
-                (left ∙ ap (λ (l : LoadedRules). lentAfterRules (l .list) lent) e ∙ lent-rules n (there f) ∙ ap (λ (m : ℕ). textOf (given .list) ++ drop m lent) (fits .2)),
-          )
-
-      -- the bytes that the code says it needs
-      pub list-length : {needed : ℕ} → needed ≡ rulesLength (read .list) → needed ≡ length (textOf (given .list))
-      unfolding rulesLength
-      list-length q = q ∙ rw (e, accepted)
-
-  -- ---- written as policies
 
   abbrev PoliciesGiven : Report → List ℕ → Type 0
   PoliciesGiven r lent′ = (r ≡ policiesFromReport given (length lent)) × (lent′ ≡ lentTo r (policiesText (given .list)) lent)

@@ -1,14 +1,11 @@
 // Two rule lists joined: both texts in, the text of the joined list out.
 ghost use mathlib.Core.Path.{_≡_};
-ghost use mathlib.Core.Bool.{true};
-ghost use Prim.Native.Nat.{_≤_};
-ghost use lib.ListN.{length, take};
-ghost use Rattle.rules.specs.Acceptance.{listAccepted};
-ghost use Rattle.rule_text.specs.Lines.{rightLines};
+ghost use Prim.Native.Nat.{_≤_, _<_};
+ghost use lib.ListN.{length};
 ghost use Rattle.rule_text.specs.Reading.{readLines, loadedOf};
 ghost use Rattle.rule_text.specs.Writing.{textOf};
 ghost use Rattle.texts.specs.SavedRuns.{rulesIn, lentTo};
-ghost use Rattle.texts.specs.JoinedTexts.{lineIn, joinedWith, joinReport};
+ghost use Rattle.texts.specs.JoinedTexts.{linesBefore, lineIn, joinedWith, joinReport};
 use crate::saved_runs::Report;
 use crate::saved_runs::Text;
 use crate::saved_runs::refused_report;
@@ -41,15 +38,18 @@ fn join_text(first: RuleList, second: &[u8]) -> LoadedRules
     let list = read.list;
     let joined = joining::join(first, list);
     let rights = list.rights;
+    let line = line_in(rights, joined.number, joined.place);
+    let joined_list = joined.list;
     LoadedRules {
         number: joined.number,
-        line: line_in(rights, joined.number, joined.place),
-        list: joined.list,
+        line,
+        list: joined_list,
     }
 }
 
 // The line of the second text: for 58 that of a kind's right, for 57 that of a rule.
 fn line_in(rights: [RightSlot; 6], number: u64, place: usize) -> usize
+    requires { ⌜ (place ≤ 128) × (number ≡ 58 → place < 6) ⌝ }
     ensures { λ r. ⌜ r ≡ lineIn rights number place ⌝ }
 {
     if number == 58 {
@@ -63,11 +63,12 @@ fn line_in(rights: [RightSlot; 6], number: u64, place: usize) -> usize
 
 // How many lines the rights of the kinds below one have.
 fn lines_before(rights: [RightSlot; 6], kind: usize) -> usize
-    ensures { λ r. ⌜ (r ≡ rightLines (take kind rights)) × (r ≤ 6) ⌝ }
+    requires { ⌜ kind ≤ 6 ⌝ }
+    ensures { λ r. ⌜ (r ≡ linesBefore rights kind) × (r ≤ 6) ⌝ }
 {
     let mut lines: usize = 0;
     let mut i: usize = 0;
-    while (i < kind) & (i < RuleList::RIGHTS) {
+    while i < kind {
         let slot = rights[i];
         let right = slot.right;
         lines += rule_text::line_count(right);
