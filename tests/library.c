@@ -1,4 +1,4 @@
-/* What library/include/pitch_gate.h says of pointers, versions, causes and policies, tried on the archive.
+/* What library/include/pitch_gate.h says of pointers, versions, causes, policies and joined lists, tried on the archive.
  *
  * Each call that is lent a text or a space of 0 bytes is made four times: with a pointer to a byte, with a null pointer, with a pointer
  * to a page that can be neither read nor written, and with a pointer to no page at all. All four must give the same number, the same report
@@ -26,6 +26,10 @@ static const struct text input = TEXT("(rule 1 (needs 2 1))\n(steps)\n(assign 5 
 static const struct text policies = TEXT("PL1: maxUsers = 3 only-for-role r4;\nPL2: enable r4 if active r2 deactivation-dependency;\n");
 static const struct text policy_rules = TEXT("(rule 1 (max-users 4 3))\n(rule 2 (needs 4 2))\n");
 
+static const struct text other_rules = TEXT("(right assign 30)\n(rule 1 (apart 1 3))\n(rule 2 (max-active 2))\n");
+static const struct text joined_rules =
+    TEXT("(right assign 30)\n(rule 1 (needs 2 1))\n(rule 2 (apart 1 3))\n(rule 3 (max-active 2))\n");
+
 /* What a call gave: every byte is compared. */
 struct outcome {
     uint64_t number;
@@ -41,6 +45,7 @@ static void make_empty_pointers(void);
 static void try_calls(void);
 static void try_runs(void);
 static void try_policies(void);
+static void try_joining(void);
 static void compare(const char *call, const struct outcome outcomes[EMPTY_POINTERS]);
 static void expect(const char *what, int holds);
 
@@ -54,10 +59,15 @@ int main(void)
            strcmp(pitch_gate_cause(PITCH_GATE_OUTSIDE_SUBSET), "policy line outside the subset of GEMRBAC-DSL") == 0);
     expect("the cause of 56",
            strcmp(pitch_gate_cause(PITCH_GATE_NO_POLICY_LINE), "rule or right line that has no policy line") == 0);
+    expect("the cause of 57", strcmp(pitch_gate_cause(PITCH_GATE_JOINED_TOO_LONG), "joined lists have more than 128 rules") == 0);
+    expect("the cause of 58",
+           strcmp(pitch_gate_cause(PITCH_GATE_RIGHTS_DIFFER),
+                  "two right lines of one kind with different permissions in the lists to be joined") == 0);
     expect("the cause of no number", strcmp(pitch_gate_cause(29), "a number that this header does not know") == 0);
     try_calls();
     try_runs();
     try_policies();
+    try_joining();
     printf("%u calls with an empty text or space, each with %d pointers\n", tried, EMPTY_POINTERS);
     return EXIT_SUCCESS;
 }
@@ -94,8 +104,8 @@ static struct outcome fresh_outcome(void)
 /* Each call over one or two texts, with its text, its space or both empty. */
 static void try_calls(void)
 {
-    static const char *const names[] = {"respond",    "check_rules", "copy_rules",          "check_state",
-                                        "copy_state", "fresh_state", "rules_from_policies", "policies_from_rules"};
+    static const char *const names[] = {"respond",     "check_rules",         "copy_rules",          "check_state", "copy_state",
+                                        "fresh_state", "rules_from_policies", "policies_from_rules", "join_rules"};
     enum { CALLS = sizeof names / sizeof names[0] };
     for (unsigned choice = 0; choice < 8; choice++) {
         const struct text none = {NULL, 0};
@@ -104,6 +114,7 @@ static void try_calls(void)
         const struct text an_input = choice & 1 ? none : input;
         const struct text some_policies = choice & 1 ? none : policies;
         const struct text their_rules = choice & 1 ? none : policy_rules;
+        const struct text more_rules = choice & 2 ? none : other_rules;
         const size_t room = choice & 4 ? 0 : 256;
         struct outcome of[CALLS][EMPTY_POINTERS];
         for (int i = 0; i < EMPTY_POINTERS; i++) {
@@ -126,6 +137,8 @@ static void try_calls(void)
                                                              write_to(of[6][i].first, room, empty), room, &of[6][i].report);
             of[7][i].number = pitch_gate_policies_from_rules(read_from(their_rules, empty), their_rules.length,
                                                              write_to(of[7][i].first, room, empty), room, &of[7][i].report);
+            of[8][i].number = pitch_gate_join_rules(list, a_rules.length, read_from(more_rules, empty), more_rules.length,
+                                                    write_to(of[8][i].first, room, empty), room, &of[8][i].report);
         }
         for (int call = 0; call < CALLS; call++) {
             compare(names[call], of[call]);
@@ -182,6 +195,31 @@ static void try_policies(void)
     number = pitch_gate_policies_from_rules((const uint8_t *)rules.bytes, rules.length, lines, sizeof lines, &report);
     expect("a rule without a policy line", number == PITCH_GATE_NO_POLICY_LINE && report.text == PITCH_GATE_TEXT_RULES);
     expect("the rule and the lengths of 56", report.place == 2 && report.output == 0 && report.state == 0);
+}
+
+/* Two lists joined in a space that is always long enough, and a refusal of each of them and of the two. */
+static void try_joining(void)
+{
+    static const struct text other_right = TEXT("(right assign 31)\n");
+    static uint8_t list[PITCH_GATE_RULES_MOST];
+    const uint8_t *const first = (const uint8_t *)rules.bytes;
+    const uint8_t *const second = (const uint8_t *)other_rules.bytes;
+    struct pitch_gate_report report;
+    uint64_t number;
+
+    number = pitch_gate_join_rules(first, rules.length, second, other_rules.length, list, sizeof list, &report);
+    expect("two lists joined", number == PITCH_GATE_CALL_COMPLETED && report.text == PITCH_GATE_TEXT_NONE && report.place == 0);
+    expect("the joined list", is_text(list, report.output, joined_rules) && report.state == 0);
+
+    number = pitch_gate_join_rules(first, rules.length - 1, second, other_rules.length, list, sizeof list, &report);
+    expect("a bad first list", number == PITCH_GATE_NO_FORM && report.text == PITCH_GATE_TEXT_RULES && report.place == 2);
+    number = pitch_gate_join_rules(first, rules.length, second, other_rules.length - 1, list, sizeof list, &report);
+    expect("a bad second list", number == PITCH_GATE_NO_FORM && report.text == PITCH_GATE_TEXT_SECOND_RULES && report.place == 3);
+    number = pitch_gate_join_rules(second, other_rules.length, (const uint8_t *)other_right.bytes, other_right.length, list,
+                                   sizeof list, &report);
+    expect("rights that differ", number == PITCH_GATE_RIGHTS_DIFFER && report.text == PITCH_GATE_TEXT_SECOND_RULES);
+    expect("the line and the lengths of 58", report.place == 1 && report.output == 0 && report.state == 0);
+    expect("the list that a refusal leaves", is_text(list, joined_rules.length, joined_rules));
 }
 
 static void compare(const char *call, const struct outcome outcomes[EMPTY_POINTERS])

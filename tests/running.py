@@ -1,5 +1,5 @@
-"""What tests/vectors, tests/guide and tests/library share: the program, the library through library/rust/examples/handover.rs and
-policies.rs, C programs, and the tables."""
+"""What tests/vectors, tests/guide and tests/library share: the program, the library through library/rust/examples/handover.rs,
+policies.rs and join.rs, C programs, and the tables."""
 
 import pathlib
 import re
@@ -49,6 +49,15 @@ def turn(journey, text, spaces):
         file.write(text)
         file.flush()
         return run_example("policies", journey, file.name, *spaces)
+
+
+def join(first, second, spaces):
+    """What join prints of two rule lists."""
+    with tempfile.TemporaryDirectory() as folder:
+        files = [pathlib.Path(folder) / name for name in ("first", "second")]
+        for file, text in zip(files, (first, second)):
+            file.write_bytes(text)
+        return run_example("join", *files, *spaces)
 
 
 def run_example(name, *arguments):

@@ -32,6 +32,9 @@
  *     from the fresh state: start from a saved state in which somebody has the rights.
  *   - Policies, rules in the language GEMRBAC-DSL, are for the desk. It makes the rule list of them once, by
  *     pitch_gate_rules_from_policies, and the hub gets that list: no other function reads policies.
+ *   - Where the desk and the hub have had a rule list each, pitch_gate_join_rules makes the one list that both then run. A state that
+ *     was saved under one of the two may break a rule of the other: try it under the joined list, by pitch_gate_check_state, before
+ *     anybody goes on from it.
  *
  * What a call promises, whatever bytes the texts hold
  *   - It ends, and is a function of the bytes that it is lent: no heap, no threads, no global state, no input or output.
@@ -74,7 +77,9 @@
  *   acting session, (by s (assign u r)), with the numbers 53 and 54: both lines are 10 to 2.1, so take 2.2 at every end before the
  *   first of them is sent. Version 2.3 adds pitch_gate_rules_from_policies and pitch_gate_policies_from_rules, with the numbers 55
  *   and 56. No text of 2.2 changes its meaning, and nothing new is sent between ends: policies are for the desk, rule lists and
- *   saved states stay as they are. So the desk alone may take 2.3.
+ *   saved states stay as they are. So the desk alone may take 2.3. Version 2.4 adds pitch_gate_join_rules, with the numbers 57 and 58
+ *   and the text 7. No text of 2.3 changes its meaning, and a joined list is a rule list like any other: whoever joins, alone, may
+ *   take 2.4.
  */
 #ifndef PITCH_GATE_H
 #define PITCH_GATE_H
@@ -86,7 +91,7 @@
 extern "C" {
 #endif
 
-#define PITCH_GATE_VERSION 20300 /* 2.3.0 */
+#define PITCH_GATE_VERSION 20400 /* 2.4.0 */
 
 /* The version of the archive that is linked, as PITCH_GATE_VERSION is of this header. */
 uint64_t pitch_gate_version(void);
@@ -126,7 +131,11 @@ enum pitch_gate_number {
 
     /* returned by the two functions on policies, and by no other */
     PITCH_GATE_OUTSIDE_SUBSET = 55,            /* policy line outside the subset of GEMRBAC-DSL */
-    PITCH_GATE_NO_POLICY_LINE = 56             /* rule or right line that has no policy line */
+    PITCH_GATE_NO_POLICY_LINE = 56,            /* rule or right line that has no policy line */
+
+    /* returned by pitch_gate_join_rules, and by no other function */
+    PITCH_GATE_JOINED_TOO_LONG = 57,           /* joined lists have more than 128 rules */
+    PITCH_GATE_RIGHTS_DIFFER = 58              /* two right lines of one kind with different permissions in the lists to be joined */
 };
 
 /* The cause of a number in words, for people and logs. */
@@ -161,6 +170,8 @@ static inline const char *pitch_gate_cause(uint64_t number)
     case 54: return "right lacking: no acting session, or no role active in it carries the permission";
     case 55: return "policy line outside the subset of GEMRBAC-DSL";
     case 56: return "rule or right line that has no policy line";
+    case 57: return "joined lists have more than 128 rules";
+    case 58: return "two right lines of one kind with different permissions in the lists to be joined";
     default: return "a number that this header does not know";
     }
 }
@@ -168,12 +179,13 @@ static inline const char *pitch_gate_cause(uint64_t number)
 /* What a refusal is about. */
 enum pitch_gate_text {
     PITCH_GATE_TEXT_NONE = 0,         /* the call completed */
-    PITCH_GATE_TEXT_RULES = 1,        /* the rule list */
+    PITCH_GATE_TEXT_RULES = 1,        /* the rule list; where two are joined, the first */
     PITCH_GATE_TEXT_STATE = 2,        /* the saved state */
     PITCH_GATE_TEXT_STEPS = 3,        /* the steps */
     PITCH_GATE_TEXT_OUTPUT_SPACE = 4, /* the space lent for the answers, the output, a rule list or policies */
     PITCH_GATE_TEXT_STATE_SPACE = 5,  /* the space lent for the saved state */
-    PITCH_GATE_TEXT_POLICIES = 6      /* the policies */
+    PITCH_GATE_TEXT_POLICIES = 6,     /* the policies */
+    PITCH_GATE_TEXT_SECOND_RULES = 7  /* the second of two rule lists that are joined */
 };
 
 /* What each call fills in. */
@@ -199,8 +211,8 @@ _Static_assert(sizeof(struct pitch_gate_report) == 32, "the library fills four n
 #define PITCH_GATE_POLICIES_MOST 7188 /* policies: 128 lines `PLn: enable r31 if active r30 deactivation-dependency;`, which is 128 times 54 bytes and the 276 digits of 1 to 128 */
 #define PITCH_GATE_STATE_MOST 997981  /* a saved state: every role assigned or lent, 32 of them lent, the longest times, users, positions and errors */
 
-/* Spaces that are always long enough; for a saved state PITCH_GATE_STATE_MOST, for a rule list PITCH_GATE_RULES_MOST, for policies
- * PITCH_GATE_POLICIES_MOST. */
+/* Spaces that are always long enough; for a saved state PITCH_GATE_STATE_MOST, for a rule list, a joined one too,
+ * PITCH_GATE_RULES_MOST, for policies PITCH_GATE_POLICIES_MOST. */
 #define PITCH_GATE_OUTPUT_MOST 131072 /* the output of pitch_gate_respond, the answers of pitch_gate_run_steps */
 #define PITCH_GATE_ANSWER_MOST 16     /* the answer to one step: `(no 30 128 128)` and its line feed */
 #define PITCH_GATE_FRESH_MOST 8       /* the fresh state: `(now 0)` and its line feed */
@@ -242,6 +254,17 @@ uint64_t pitch_gate_rules_from_policies(const uint8_t *policies, size_t policies
  * list has a right line; 18 where the space for the policies is too short (with PITCH_GATE_POLICIES_MOST bytes never). */
 uint64_t pitch_gate_policies_from_rules(const uint8_t *rules, size_t rules_length, uint8_t *policies, size_t policies_length,
                                         struct pitch_gate_report *report);
+
+/* Reads two rule lists and writes the joined one: the right lines of either, equal ones once; then the rules of the first, as they
+ * are; then in turn each rule of the second that, its number aside, equals none already there, with the next number. Two rules are
+ * equal when their lines are, number aside: (apart 1 2) and (apart 2 1) are two. A rule that stands twice in the first list stays
+ * twice; one that stands twice in the second is joined once. A saved state obeys the joined list just if it obeys both.
+ * Refused, in this order: 10 to 14 of the first list with its first bad line; 10 to 14 of the second with its first bad line; 58 with
+ * the second's first right line that has another permission than the first's line of its kind; 57 with the second's line whose rule
+ * would be the joined list's 129th; 18 where the space for the joined list is too short (with PITCH_GATE_RULES_MOST bytes never).
+ * All that is refused with a line of the second list has the text PITCH_GATE_TEXT_SECOND_RULES. */
+uint64_t pitch_gate_join_rules(const uint8_t *first, size_t first_length, const uint8_t *second, size_t second_length,
+                               uint8_t *joined, size_t joined_length, struct pitch_gate_report *report);
 
 /* Reads a rule list and a saved state under it. Refused, in this order: 10 to 14 of the rules; 10, 11, 15, 16 or 51 of the saved
  * state with its first bad line; 17 with the lowest rule that the state breaks. */

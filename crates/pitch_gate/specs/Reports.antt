@@ -14,9 +14,9 @@ use Rattle.texts.specs.declared.saved_runs.Text.{Text}
 use Rattle.texts.specs.declared.saved_runs.Text.the-variants as Text
 use Rattle.texts.specs.declared.saved_runs.Report.{Report}
 
--- 2.3.0
+-- 2.4.0
 abbrev pub version : ℕ
-version = 20300
+version = 20400
 
 -- ---- a report as numbers
 
@@ -28,6 +28,7 @@ textNumber Text.Steps = 3
 textNumber Text.OutputSpace = 4
 textNumber Text.StateSpace = 5
 textNumber Text.Policies = 6
+textNumber Text.SecondRules = 7
 
 -- the number is returned, the rest is written to the four lent numbers, from the first on
 pub record Told (report : Report) (number : ℕ) (numbers numbers′ : List ℕ) : Type 0 where

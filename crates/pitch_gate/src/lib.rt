@@ -12,13 +12,14 @@ ghost use Rattle.state_text.specs.Saving.{savedText};
 ghost use Rattle.texts.specs.Response.{responseOf};
 ghost use Rattle.texts.specs.SavedRuns.{loadTexts, rulesIn, outputReport, rulesCopyReport, savedReport, stateIn, copyReport, savedOutcome};
 ghost use Rattle.texts.specs.Policies.{rulesFromReport, policiesFromReport};
+ghost use Rattle.texts.specs.JoinedTexts.{joinedWith, joinReport};
 ghost use Rattle.pitch_gate.specs.Reports.{version, textNumber, Told, Given, Handed, responseReport, readReport, rulesReport, textsReport};
 use forms::Written;
 use texts::Report;
 use texts::Text;
 
-// 10,000 for each major version, 100 for each minor one and 1 for each correction: this is 2.3.0.
-const VERSION: u64 = 20_300;
+// 10,000 for each major version, 100 for each minor one and 1 for each correction: this is 2.4.0.
+const VERSION: u64 = 20_400;
 
 // The version of the library that is linked.
 #[no_mangle]
@@ -111,6 +112,19 @@ pub extern "C" fn pitch_gate_policies_from_rules(
     tell(texts::policies_from_rules(rules, policies), report)
 }
 
+// Two rule lists joined into one.
+#[no_mangle]
+pub extern "C" fn pitch_gate_join_rules(
+    first: &[u8],
+    second: &[u8],
+    joined: &mut [u8],
+    report: &mut [u64; 4],
+) -> u64
+    ensures { λ r. ⌜ Given (joinReport (loadedOf (readLines (now (first .entry)))) (loadedOf (readLines (now (second .entry)))) (length (now (joined .entry)))) (textOf (joinedWith (rulesIn (now (first .entry))) (loadedOf (readLines (now (second .entry)))) .list)) (now (joined .entry)) r (now (report .entry)) (now (joined .exit)) (now (report .exit)) ⌝ }
+{
+    tell(texts::join_rules(first, second, joined), report)
+}
+
 // Steps over a saved state: rules, saved state and steps in, the answers and the new saved state out.
 #[no_mangle]
 pub extern "C" fn pitch_gate_run_steps(
@@ -172,5 +186,6 @@ fn text_number(text: Text) -> u64
         Text::OutputSpace => 4,
         Text::StateSpace => 5,
         Text::Policies => 6,
+        Text::SecondRules => 7,
     }
 }

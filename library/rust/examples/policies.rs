@@ -8,10 +8,10 @@
 //! 18 can be the refusal.
 
 mod common;
+mod one_text;
 
-use common::{main_of, read, refused, space, text_in, Ended};
-use pitch_gate::Refusal;
-use std::io::{self, Write};
+use common::{main_of, read, Ended};
+use one_text::{in_space, print};
 use std::process::ExitCode;
 
 fn main() -> ExitCode {
@@ -30,23 +30,9 @@ fn run(arguments: &[String]) -> Ended {
         }
         _ => return wanted(),
     };
-    match turned {
-        Ok(text) => {
-            io::stdout().write_all(&text)?;
-            Ok(ExitCode::SUCCESS)
-        }
-        Err(refusal) => Ok(refused(refusal)),
-    }
+    print(turned)
 }
 
 fn wanted() -> Ended {
     Err("to-rules FILE [BYTES] or from-rules FILE [BYTES] is wanted".into())
-}
-
-/// Writes in a space of this length, and sees that no byte is touched that the library promises to leave.
-fn in_space(bytes: usize, write: impl FnOnce(&mut [u8]) -> Result<usize, Refusal>) -> Result<Vec<u8>, Refusal> {
-    let mut space = space(bytes);
-    let written = write(&mut space);
-    let text = text_in(space, written.unwrap_or(0));
-    written.map(|_| text)
 }

@@ -1,5 +1,5 @@
 //! The pitch access gate: rule lists, saved states and steps in, answers and saved states out. Rule lists in GEMRBAC-DSL, here called
-//! policies, are turned into the gate's own and back.
+//! policies, are turned into the gate's own and back, and two rule lists are joined into one.
 //!
 //! library/FORMATS.md has the texts, library/include/pitch_gate.h how a hub uses them: when it gives a clock, what it stores before it
 //! acts, what it sends after a restart. Every call is a function of the bytes that it is lent and of nothing else. What it answers is
@@ -22,6 +22,8 @@ let ran = pitch_gate::run_steps(rules, &pitch_gate::fresh_state()?, b"(assign 5 
 assert_eq!(ran.answers, b"(yes 1 0)\n(no 30 1 1)\n");
 assert_eq!(ran.state, b"(now 0)\n(assigned 5 1)\n");
 assert_eq!(pitch_gate::rules_from_policies(b"PL1: maxActiveRoles = 2;\n")?, b"(rule 1 (max-active 2))\n");
+let joined = pitch_gate::join_rules(rules, b"(rule 1 (max-active 2))\n(rule 2 (apart 1 3))\n")?;
+assert_eq!(joined, b"(rule 1 (apart 1 3))\n(rule 2 (max-active 2))\n");
 # Ok::<(), pitch_gate::Refusal>(())
 ```"#
 )]
@@ -37,14 +39,16 @@ mod refusal;
 mod room;
 
 #[cfg(feature = "alloc")]
-pub use owned::{copy_rules, copy_state, fresh_state, policies_from_rules, respond, rules_from_policies, run_steps, Ran};
+pub use owned::{
+    copy_rules, copy_state, fresh_state, join_rules, policies_from_rules, respond, rules_from_policies, run_steps, Ran,
+};
 pub use refusal::{cause, Refusal, Text};
 pub use room::{ANSWER_MOST, FRESH_MOST, INPUT_MOST, OUTPUT_MOST, POLICIES_MOST, RULES_MOST, STACK_MOST, STATE_MOST};
 
 use raw::{FromText, Report};
 
 /// The version that this crate was written for: 10,000 times the major version, 100 times the minor one, and the third number.
-pub const VERSION: u64 = 20_300;
+pub const VERSION: u64 = 20_400;
 
 /// The version of the library that is linked, as [`VERSION`] is of this crate.
 pub fn version() -> u64 {
@@ -133,6 +137,31 @@ pub fn rules_from_policies_into(policies: &[u8], rules: &mut [u8]) -> Result<usi
 /// `policies` too short (18; with [`POLICIES_MOST`] bytes never).
 pub fn policies_from_rules_into(rules: &[u8], policies: &mut [u8]) -> Result<usize, Refusal> {
     from_text(raw::pitch_gate_policies_from_rules, rules, policies)
+}
+
+/// Reads two rule lists, writes the joined list and returns its length. The joined list has the right lines of either, equal ones once; the
+/// rules of the first with their numbers; then, in turn and renumbered, each rule of the second that, its number aside, equals none
+/// already there. A saved state obeys the joined list just if it obeys both.
+///
+/// Refused, in this order: the first list (10 to 14, with [`Text::Rules`]), the second (10 to 14, with [`Text::SecondRules`]), the second's
+/// first right line that has another permission than the first's line of its kind (58), the second's rule that would be the joined list's
+/// 129th (57), `joined` too short (18; with [`RULES_MOST`] bytes never).
+pub fn join_rules_into(first: &[u8], second: &[u8], joined: &mut [u8]) -> Result<usize, Refusal> {
+    let mut report = Report::default();
+    // SAFETY: each pointer and length is one slice's; the space is borrowed alone, so it overlaps nothing else lent.
+    let number = unsafe {
+        raw::pitch_gate_join_rules(
+            first.as_ptr(),
+            first.len(),
+            second.as_ptr(),
+            second.len(),
+            joined.as_mut_ptr(),
+            joined.len(),
+            &mut report,
+        )
+    };
+    report.refused(number)?;
+    Ok(report.output())
 }
 
 /// Whether a saved state is accepted under a rule list.

@@ -1,8 +1,8 @@
 //! The calls that return what they write. Their spaces are long enough for any result, so that none is refused with 18.
 
 use crate::{
-    copy_rules_into, copy_state_into, fresh_state_into, policies_from_rules_into, respond_into, rules_from_policies_into,
-    run_steps_into, Refusal, FRESH_MOST, OUTPUT_MOST, POLICIES_MOST, RULES_MOST, STATE_MOST,
+    copy_rules_into, copy_state_into, fresh_state_into, join_rules_into, policies_from_rules_into, respond_into,
+    rules_from_policies_into, run_steps_into, Refusal, FRESH_MOST, OUTPUT_MOST, POLICIES_MOST, RULES_MOST, STATE_MOST,
 };
 use alloc::vec;
 use alloc::vec::Vec;
@@ -41,6 +41,11 @@ pub fn rules_from_policies(policies: &[u8]) -> Result<Vec<u8>, Refusal> {
 /// As [`policies_from_rules_into`].
 pub fn policies_from_rules(rules: &[u8]) -> Result<Vec<u8>, Refusal> {
     written(POLICIES_MOST, |policies| policies_from_rules_into(rules, policies))
+}
+
+/// As [`join_rules_into`].
+pub fn join_rules(first: &[u8], second: &[u8]) -> Result<Vec<u8>, Refusal> {
+    written(RULES_MOST, |joined| join_rules_into(first, second, joined))
 }
 
 /// As [`copy_state_into`].

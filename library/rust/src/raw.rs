@@ -71,6 +71,16 @@ extern "C" {
         report: *mut Report,
     ) -> u64;
 
+    pub fn pitch_gate_join_rules(
+        first: *const u8,
+        first_length: usize,
+        second: *const u8,
+        second_length: usize,
+        joined: *mut u8,
+        joined_length: usize,
+        report: *mut Report,
+    ) -> u64;
+
     pub fn pitch_gate_check_state(
         rules: *const u8,
         rules_length: usize,

@@ -7,7 +7,7 @@ use core::fmt;
 #[derive(Clone, Copy, Debug, PartialEq, Eq)]
 #[non_exhaustive]
 pub struct Refusal {
-    /// 10 to 19, 51, 55 or 56: [`cause`] has each in words.
+    /// 10 to 19, 51 or 55 to 58: [`cause`] has each in words.
     pub number: u64,
     pub text: Text,
     /// The line of that text, from 1; for 17 the rule; for 56 the rule, 0 for a right line; for 18 the bytes that the space needs; 0
@@ -19,6 +19,7 @@ pub struct Refusal {
 #[derive(Clone, Copy, Debug, PartialEq, Eq)]
 #[non_exhaustive]
 pub enum Text {
+    /// The rule list; where two are joined, the first.
     Rules,
     State,
     Steps,
@@ -27,6 +28,8 @@ pub enum Text {
     /// The space lent for the saved state.
     StateSpace,
     Policies,
+    /// The second of two rule lists that are joined.
+    SecondRules,
     /// One that a later library reports and this crate does not know.
     Other(u64),
 }
@@ -40,6 +43,7 @@ impl Text {
             4 => Text::OutputSpace,
             5 => Text::StateSpace,
             6 => Text::Policies,
+            7 => Text::SecondRules,
             other => Text::Other(other),
         }
     }
@@ -75,6 +79,8 @@ pub fn cause(number: u64) -> Option<&'static str> {
         54 => "right lacking: no acting session, or no role active in it carries the permission",
         55 => "policy line outside the subset of GEMRBAC-DSL",
         56 => "rule or right line that has no policy line",
+        57 => "joined lists have more than 128 rules",
+        58 => "two right lines of one kind with different permissions in the lists to be joined",
         _ => return None,
     };
     Some(cause)
@@ -89,6 +95,7 @@ impl fmt::Display for Text {
             Text::OutputSpace => formatter.write_str("the space for the output"),
             Text::StateSpace => formatter.write_str("the space for the saved state"),
             Text::Policies => formatter.write_str("the policies"),
+            Text::SecondRules => formatter.write_str("the second rule list"),
             Text::Other(text) => write!(formatter, "text {text}"),
         }
     }

@@ -24,8 +24,8 @@ pub const STATE_MOST: usize = "(now 3155759999)\n".len()
     + every("(active  )\n", &[SESSIONS, ROLES])
     + every("(did   )\n", &[OBJECTS, PERMISSIONS, USERS]);
 
-/// Bytes that hold any rule list: a right line of each kind, and 128 rules, each on the outside of a box at the corner of the grid whose
-/// coordinates are longest.
+/// Bytes that hold any rule list, a joined one too: a right line of each kind, and 128 rules, each on the outside of a box at the corner of
+/// the grid whose coordinates are longest.
 pub const RULES_MOST: usize =
     RIGHT_LINES.len() + numbered("(rule  (at 31 (outside (box -1000000 -1000000 -1000000 -1000000))))\n");
 

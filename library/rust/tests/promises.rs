@@ -43,9 +43,6 @@ const REFUSED_RULES: [(&[u8], u64, u64); 11] = [
 /// A refusal's number, text and place.
 type Told = (u64, Text, u64);
 
-/// A function that reads one text and writes another.
-type FromText = fn(&[u8], &mut [u8]) -> Result<usize, Refusal>;
-
 fn told<T>(result: Result<T, Refusal>) -> Result<T, Told> {
     result.map_err(|refusal| (refusal.number, refusal.text, refusal.place))
 }
@@ -68,22 +65,36 @@ fn is_untouched(space: &[u8]) -> bool {
 }
 
 /// The call is refused so in a space of this length, and every byte of it stays.
-fn refuses(call: FromText, text: &[u8], length: usize, expected: Told) {
+fn refuses(call: impl Fn(&[u8], &mut [u8]) -> Result<usize, Refusal>, text: &[u8], length: usize, expected: Told) {
     let mut lent = space(length);
     assert_eq!(told(call(text, &mut lent)), Err(expected), "{}", text.escape_ascii());
     assert!(is_untouched(&lent));
 }
 
 /// The call writes just this text, and leaves what is past it. A space of each smaller length is 18 with the length that is needed.
-fn writes(call: FromText, text: &[u8], expected: &[u8]) {
+fn writes(call: impl Fn(&[u8], &mut [u8]) -> Result<usize, Refusal>, text: &[u8], expected: &[u8]) {
     for more in [0, 3] {
         let mut written = space(expected.len() + more);
         assert_eq!(told(call(text, &mut written)), Ok(expected.len()));
         assert!(written.strip_prefix(expected).is_some_and(is_untouched), "{}", written.escape_ascii());
     }
     for length in 0..expected.len() {
-        refuses(call, text, length, (18, Text::OutputSpace, expected.len() as u64));
+        refuses(&call, text, length, (18, Text::OutputSpace, expected.len() as u64));
     }
+}
+
+/// A list of rules in these families, numbered from 1.
+fn numbered(families: impl IntoIterator<Item = String>) -> String {
+    families.into_iter().zip(1..).map(|(family, number)| format!("(rule {number} {family})\n")).collect()
+}
+
+/// A family whose line no other is longer than, for a role of two digits.
+fn longest_family(role: u64) -> String {
+    format!("(at {role} (outside (box -1000000 -1000000 -1000000 -1000000)))")
+}
+
+fn longest_rights(kinds: &[&str]) -> String {
+    kinds.iter().map(|kind| format!("(right {kind} 31)\n")).collect()
 }
 
 /// Rules and steps of an input as the program takes it.
@@ -159,10 +170,8 @@ fn a_space_of_the_length_that_18_names_is_enough() {
 
 #[test]
 fn the_longest_rule_list_fills_its_space() {
-    let rule = |number| format!("(rule {number} (at 31 (outside (box -1000000 -1000000 -1000000 -1000000))))\n");
     let kinds = ["assign", "withdraw", "grant", "take", "lend", "recall"];
-    let rights = kinds.map(|kind| format!("(right {kind} 31)\n")).concat();
-    let rules: String = rights + &(1..=128).map(rule).collect::<String>();
+    let rules = longest_rights(&kinds) + &numbered((0..128).map(|_| longest_family(31)));
     assert_eq!(rules.len(), RULES_MOST);
     assert_eq!(copy_rules(rules.as_bytes()).unwrap(), rules.as_bytes());
     refuses(copy_rules_into, rules.as_bytes(), RULES_MOST - 1, (18, Text::OutputSpace, RULES_MOST as u64));
@@ -330,6 +339,204 @@ fn a_right_line_comes_before_any_rule_without_a_policy_line() {
             refuses(policies_from_rules_into, &[rights, rules].concat(), 0, (56, Text::Rules, 0));
         }
     }
+}
+
+/// Two lists are joined to just this one, and in a space that is too short to nothing.
+fn joins(first: &[u8], second: &[u8], expected: &[u8]) {
+    assert_eq!(told(join_rules(first, second)).as_deref(), Ok(expected), "{}", second.escape_ascii());
+    assert_eq!(told(check_rules(expected)), Ok(()));
+    writes(|second, joined| join_rules_into(first, second, joined), second, expected);
+}
+
+/// Two lists are refused so, whether the space is long enough or empty, and every byte of it stays.
+fn refuses_to_join(first: &[u8], second: &[u8], expected: Told) {
+    for length in [RULES_MOST, 0] {
+        refuses(|second, joined| join_rules_into(first, second, joined), second, length, expected);
+    }
+}
+
+#[test]
+fn joined_rules_are_the_first_list_and_what_the_second_adds() {
+    joins(b"", b"", b"");
+    joins(RULES, b"", RULES);
+    joins(b"", RULES, RULES);
+    let others = b"(rule 1 (apart 1 3))\n(rule 2 (max-active 2))\n(rule 3 (during 2 (week 1 5 0700 1900)))\n";
+    joins(
+        RULES,
+        others,
+        b"(rule 1 (needs 2 1))\n(rule 2 (apart 1 3))\n(rule 3 (max-active 2))\n(rule 4 (during 2 (week 1 5 0700 1900)))\n",
+    );
+    joins(
+        others,
+        RULES,
+        b"(rule 1 (apart 1 3))\n(rule 2 (max-active 2))\n(rule 3 (during 2 (week 1 5 0700 1900)))\n(rule 4 (needs 2 1))\n",
+    );
+}
+
+#[test]
+fn a_list_joined_with_itself_is_itself() {
+    let doubled = b"(rule 1 (needs 2 1))\n(rule 2 (apart 1 3))\n(rule 3 (needs 2 1))\n";
+    for list in [RULES, RIGHTS, POLICY_RULES, doubled, &[RIGHTS, RULES].concat()] {
+        joins(list, list, list);
+    }
+}
+
+/// Lines that differ in anything but the rule's number stay apart, whatever they mean.
+#[test]
+fn rules_are_equal_when_their_lines_are() {
+    let families = [
+        "(needs 1 2)",
+        "(needs 2 1)",
+        "(before 2 1)",
+        "(apart 2 1)",
+        "(apart 1 2)",
+        "(apart-active 1 2)",
+        "(two-hands 1 2)",
+        "(same-hand 1 2)",
+        "(max-users 1 2)",
+        "(max-permissions 1 2)",
+        "(max-permissions 1 3)",
+        "(max-roles 2)",
+        "(max-active 2)",
+        "(during 1 (week 1 5 0700 1900))",
+        "(during 1 (week 1 5 0700 1901))",
+        "(during 2 (week 1 5 0700 1900))",
+        "(during 1 (months 1 5))",
+        "(during 1 (nth 1 5))",
+        "(during 1 (dates 20260608 20260609))",
+        "(during 1 (every 1 20260608))",
+        "(at 1 (inside (circle 0 0 5)))",
+        "(at 1 (outside (circle 0 0 5)))",
+        "(at 1 (inside (circle 0 0 6)))",
+        "(at 1 (inside (box 0 0 5 5)))",
+        "(at 1 (inside (box -5 0 5 5)))",
+    ];
+    for first in families {
+        for second in families {
+            let joined = if first == second { vec![first] } else { vec![first, second] };
+            let [first, second, joined] =
+                [&[first][..], &[second], &joined].map(|list| numbered(list.iter().map(|family| family.to_string())));
+            joins(first.as_bytes(), second.as_bytes(), joined.as_bytes());
+        }
+    }
+}
+
+#[test]
+fn doubles_stay_in_the_first_list_and_are_joined_once_from_the_second() {
+    let doubled = b"(rule 1 (needs 2 1))\n(rule 2 (apart 1 3))\n(rule 3 (needs 2 1))\n";
+    joins(doubled, b"", doubled);
+    joins(b"", doubled, RULES);
+    joins(doubled, b"(rule 1 (max-active 2))\n", &[&doubled[..], b"(rule 4 (max-active 2))\n"].concat());
+    joins(b"(rule 1 (max-active 2))\n", doubled, b"(rule 1 (max-active 2))\n(rule 2 (needs 2 1))\n(rule 3 (apart 1 3))\n");
+}
+
+#[test]
+fn right_lines_of_either_list_are_kept_in_the_order_of_their_kinds() {
+    joins(
+        b"(right withdraw 30)\n(right lend 29)\n(rule 1 (needs 2 1))\n",
+        b"(right assign 3)\n(right withdraw 30)\n(right recall 3)\n(rule 1 (apart 1 3))\n",
+        b"(right assign 3)\n(right withdraw 30)\n(right lend 29)\n(right recall 3)\n(rule 1 (needs 2 1))\n(rule 2 (apart 1 3))\n",
+    );
+    joins(RIGHTS, RULES, &[RIGHTS, RULES].concat());
+    joins(RULES, RIGHTS, &[RIGHTS, RULES].concat());
+    joins(b"(right take 3)\n", b"(right grant 3)\n", b"(right grant 3)\n(right take 3)\n");
+}
+
+#[test]
+fn a_refused_list_is_not_joined() {
+    for (rules, number, line) in REFUSED_RULES {
+        refuses_to_join(rules, RULES, (number, Text::Rules, line));
+        refuses_to_join(RULES, rules, (number, Text::SecondRules, line));
+        refuses_to_join(b"", rules, (number, Text::SecondRules, line));
+        refuses_to_join(rules, b"nothing\n", (number, Text::Rules, line));
+    }
+}
+
+/// So many rules that no two are equal.
+fn different_rules(count: u64) -> Vec<String> {
+    (0..count).map(|number| format!("(max-permissions {} {})", number / 32, number % 32)).collect()
+}
+
+#[test]
+fn joined_lists_have_at_most_128_rules() {
+    let rules = different_rules(130);
+    let list = |from: usize, to: usize| numbered(rules[from..to].iter().cloned()).into_bytes();
+    for (first, second) in [(128, 0), (100, 30), (0, 0), (127, 127), (1, 1)] {
+        assert_eq!(told(join_rules(&list(0, first), &list(second, 128))), Ok(list(0, 128)));
+    }
+    refuses_to_join(&list(0, 128), &list(128, 129), (57, Text::SecondRules, 1));
+    refuses_to_join(&list(0, 128), &list(126, 130), (57, Text::SecondRules, 3));
+    refuses_to_join(&list(0, 127), &list(127, 129), (57, Text::SecondRules, 2));
+    refuses_to_join(&list(0, 1), &list(1, 129), (57, Text::SecondRules, 128));
+    let with_rights = [RIGHTS, &list(126, 130)].concat();
+    refuses_to_join(&list(0, 128), &with_rights, (57, Text::SecondRules, 9));
+}
+
+#[test]
+fn right_lines_of_one_kind_must_not_differ() {
+    refuses_to_join(b"(right assign 3)\n", b"(right assign 4)\n", (58, Text::SecondRules, 1));
+    refuses_to_join(RIGHTS, b"(right assign 30)\n(right take 30)\n(right lend 30)\n", (58, Text::SecondRules, 2));
+    refuses_to_join(b"(right recall 3)\n", RIGHTS, (58, Text::SecondRules, 6));
+}
+
+/// 10 to 14 of the first list, of the second, 58, 57, 18.
+#[test]
+fn lists_are_refused_in_order() {
+    let rules = numbered(different_rules(128));
+    let first = ["(right assign 3)\n", &rules].concat();
+    let second = b"(right assign 4)\n(rule 1 (needs 2 1))\n";
+    refuses_to_join(BAD_RULES, BAD_RULES, (13, Text::Rules, 2));
+    let bad = [&second[..], b"(rule 2 (apart 3 3))\n"].concat();
+    refuses_to_join(first.as_bytes(), &bad, (13, Text::SecondRules, 3));
+    refuses_to_join(first.as_bytes(), second, (58, Text::SecondRules, 1));
+    refuses_to_join(rules.as_bytes(), second, (57, Text::SecondRules, 2));
+}
+
+/// Rules that stand twice stay only in the first list, so that it has most of the longest lines.
+#[test]
+fn the_longest_joined_list_fills_its_space() {
+    let roles = 10..31;
+    let doubles = 128 - roles.clone().count();
+    let many = (0..doubles).map(|_| longest_family(31));
+    let first = longest_rights(&["withdraw", "lend"]) + &numbered(many.clone());
+    let second =
+        longest_rights(&["assign", "grant", "take", "lend", "recall"]) + &numbered(roles.clone().map(longest_family));
+    let kinds = ["assign", "withdraw", "grant", "take", "lend", "recall"];
+    let joined = longest_rights(&kinds) + &numbered(many.chain(roles.map(longest_family)));
+    assert_eq!(joined.len(), RULES_MOST);
+    assert_eq!(join_rules(first.as_bytes(), second.as_bytes()).unwrap(), joined.as_bytes());
+    let join = |second: &[u8], space: &mut [u8]| join_rules_into(first.as_bytes(), second, space);
+    refuses(join, second.as_bytes(), RULES_MOST - 1, (18, Text::OutputSpace, RULES_MOST as u64));
+}
+
+#[test]
+fn a_state_obeys_the_joined_list_just_if_it_obeys_both() {
+    let others = b"(rule 1 (apart 1 3))\n(rule 2 (max-roles 1))\n";
+    let joined = join_rules(RULES, others).unwrap();
+    let states: [(&[u8], Result<(), u64>); 4] = [
+        (STATE, Ok(())),
+        (b"(now 0)\n(assigned 5 1)\n(assigned 5 2)\n", Err(3)),
+        (b"(now 0)\n(assigned 6 2)\n(open 0 6)\n(active 0 2)\n", Err(1)),
+        (BREAKING_STATE, Err(2)),
+    ];
+    for (state, expected) in states {
+        let both = obeys(RULES, state) && obeys(others, state);
+        assert_eq!(both, expected.is_ok());
+        assert_eq!(told(check_state(&joined, state)), expected.map_err(|rule| (17, Text::State, rule)));
+    }
+}
+
+fn obeys(rules: &[u8], state: &[u8]) -> bool {
+    check_state(rules, state).is_ok()
+}
+
+/// A right line of either list asks for its permission under the joined one, whatever the saved state has.
+#[test]
+fn right_lines_of_either_list_bind_the_steps() {
+    let joined = join_rules(b"(right assign 30)\n", b"(right grant 31)\n").unwrap();
+    let steps = b"(assign 6 2)\n(grant 2 1)\n(by 0 (assign 6 2))\n(by 0 (grant 2 1))\n(withdraw 6 2)\n(take 2 1)\n";
+    let answers = b"(no 54 0 0)\n(no 54 0 0)\n(yes 0 0)\n(yes 0 0)\n(yes 0 0)\n(yes 0 0)\n";
+    assert_eq!(ran(&joined, SAVED_RIGHTS, steps), Ok((answers.to_vec(), SAVED_RIGHTS.to_vec())));
 }
 
 #[test]
@@ -634,6 +841,18 @@ fn a_refusal_names_its_cause() {
         "refused with 56 in the rule list: rule or right line that has no policy line"
     );
     assert_eq!(
+        join_rules(RULES, BAD_RULES).unwrap_err().to_string(),
+        "refused with 13 in the second rule list, line 2: same role or permission twice in a rule"
+    );
+    assert_eq!(
+        join_rules(numbered(different_rules(128)).as_bytes(), RULES).unwrap_err().to_string(),
+        "refused with 57 in the second rule list, line 1: joined lists have more than 128 rules"
+    );
+    assert_eq!(
+        join_rules(b"(right take 3)\n", RIGHTS).unwrap_err().to_string(),
+        "refused with 58 in the second rule list, line 4: two right lines of one kind with different permissions in the lists to be joined"
+    );
+    assert_eq!(
         run_steps(RULES, STATE, b"(revoke 5 1)\n").unwrap_err().to_string(),
         "refused with 10 in the steps, line 1: line is no form of its text"
     );
@@ -642,7 +861,7 @@ fn a_refusal_names_its_cause() {
 #[test]
 fn each_number_has_its_own_cause() {
     let causes: Vec<&str> = (0..100).filter_map(cause).collect();
-    assert_eq!(causes.len(), 27);
+    assert_eq!(causes.len(), 29);
     assert!(causes.iter().all(|one| causes.iter().filter(|other| *other == one).count() == 1));
     assert_eq!((cause(0), cause(29), cause(40)), (None, None, None));
 }

@@ -1,10 +1,15 @@
 //! How often each kind of case was met, and the kinds that must be met.
 
+use crate::compare::expected::Refused;
 use crate::generate::damage::DAMAGES;
+use crate::joined_kinds::{
+    both_refused_kind, joined_kinds_to_meet, joined_state_kinds, later_line_kind, pair_kinds,
+};
 use crate::place_kinds::{
     has_an_error, outcome_kinds, place_kinds_to_meet, refused_line_kind, refused_move_kind,
     without_errors,
 };
+use crate::plain::form::Bad;
 use crate::plain::gate::{run, Answer, Outcome};
 use crate::plain::ranges::MOST_LOANS;
 use crate::plain::rules::{Rule, RuleList};
@@ -115,10 +120,11 @@ pub const STEPS_TEXT: &str = "the steps";
 pub const OUTPUT_SPACE: &str = "the space for the output";
 pub const STATE_SPACE: &str = "the space for the state";
 pub const POLICIES: &str = "the policies";
+pub const SECOND_RULES: &str = "the second rule list";
 const NOTHING: &str = "";
 
 /// The refusals of each call, by the text that they are about.
-const CALLS: [(&str, &str, &[u64]); 30] = [
+const CALLS: [(&str, &str, &[u64]); 34] = [
     ("respond", NOTHING, &[NOT_REFUSED]),
     ("respond", INPUT, &[10, 11, 12, 13, 14, 19]),
     ("respond", OUTPUT_SPACE, &[18]),
@@ -149,6 +155,10 @@ const CALLS: [(&str, &str, &[u64]); 30] = [
     ("policies_from_rules", NOTHING, &[NOT_REFUSED]),
     ("policies_from_rules", RULES, &[10, 11, 12, 13, 14, 56]),
     ("policies_from_rules", OUTPUT_SPACE, &[18]),
+    ("join_rules", NOTHING, &[NOT_REFUSED]),
+    ("join_rules", RULES, &[10, 11, 12, 13, 14]),
+    ("join_rules", SECOND_RULES, &[10, 11, 12, 13, 14, 57, 58]),
+    ("join_rules", OUTPUT_SPACE, &[18]),
 ];
 
 impl Counts {
@@ -197,6 +207,30 @@ impl Counts {
 
     pub fn policies_damaged(&mut self, damage: &'static str, number: u64) {
         self.add(damage_kind(damage, number));
+    }
+
+    /// Two accepted lists, joined or refused.
+    pub fn pair_joined(&mut self, lists: &[RuleList; 2], joined: &Result<RuleList, Refused>) {
+        self.add_all(pair_kinds(lists, joined));
+    }
+
+    pub fn both_refused(&mut self, number: u64) {
+        self.add(both_refused_kind(number));
+    }
+
+    /// A bad line of the second list, whose lines before it cannot be joined.
+    pub fn refused_after(&mut self, hidden: Bad, number: u64) {
+        self.add(later_line_kind(hidden, number));
+    }
+
+    /// A saved state under two lists and under the joined one.
+    pub fn state_joined(
+        &mut self,
+        either: [Option<Refused>; 2],
+        joined: Option<Refused>,
+        rules_of_first: usize,
+    ) {
+        self.add_all(joined_state_kinds(either, joined, rules_of_first));
     }
 
     /// A saved state that was read under the rules.
@@ -404,6 +438,7 @@ fn kinds_to_meet() -> Vec<Kind> {
     kinds.extend(place_kinds_to_meet());
     kinds.extend(right_kinds_to_meet());
     kinds.extend(policy_kinds_to_meet());
+    kinds.extend(joined_kinds_to_meet());
     kinds.extend(DAMAGES.iter().map(|&(damage, _)| (DAMAGED, damage, 0)));
     kinds
 }

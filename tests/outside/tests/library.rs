@@ -74,6 +74,23 @@ fn every_pair_survives_either_journey() {
     assert!(pairs > 10, "{pairs} pairs");
 }
 
+/// Each pair of lists: the call that returns what it writes gives the joined list, and there is room for it. Joined once more with
+/// either list it stays as it is.
+#[test]
+fn every_pair_of_lists_is_joined() {
+    let mut pairs = 0;
+    for path in vectors("joined", "joined") {
+        let [first, second, joined] = ["first", "second", "joined"]
+            .map(|end| std::fs::read(path.with_extension(end)).unwrap());
+        assert!(joined.len() <= RULES_MOST);
+        for (first, second) in [(&first, &second), (&joined, &first), (&joined, &second)] {
+            assert_eq!(join_rules(first, second).as_ref(), Ok(&joined), "{}", path.display());
+        }
+        pairs += 1;
+    }
+    assert!(pairs > 20, "{pairs} pairs");
+}
+
 /// A call that takes more stack than the header says ends the test's process. The thread itself gets 16 KiB beside it.
 #[test]
 fn each_call_fits_the_stack() {
@@ -81,7 +98,13 @@ fn each_call_fits_the_stack() {
         vectors("program", "in").into_iter().map(|path| std::fs::read(path).unwrap()).collect();
     assert!(inputs.len() > 100, "{} inputs", inputs.len());
     let [policies, lists] = ["policies", "rules"].map(|end| vectors("policies", end));
+    let pairs = vectors("joined", "first");
     let calls = move || {
+        for path in &pairs {
+            let [first, second] =
+                ["first", "second"].map(|end| std::fs::read(path.with_extension(end)).unwrap());
+            let _ = join_rules(&first, &second);
+        }
         for path in &policies {
             let _ = rules_from_policies(&std::fs::read(path).unwrap());
         }

@@ -1,7 +1,8 @@
 //! Each vector through the plain gate: what its files expect.
 
 use outside::compare::expected::{
-    accepted_policies, accepted_rules, expected_run, no_room, written_policies, Refused,
+    accepted_pair, accepted_policies, accepted_rules, expected_run, joined_list, no_room,
+    written_policies, Refused,
 };
 use outside::plain::program::respond;
 use outside::plain::rule_text::write_rules;
@@ -49,6 +50,18 @@ fn policies_and_rules() {
     }
 }
 
+/// Two lists give the joined one, or are refused.
+#[test]
+fn joined_lists() {
+    let pairs = vectors("joined", "first");
+    assert!(pairs.len() > 50, "{} pairs", pairs.len());
+    for path in pairs {
+        let lists = accepted_pair(&text(&path, "first"), &text(&path, "second"));
+        let joined = lists.and_then(|lists| joined_list(&lists));
+        check_turned(&path, joined.map(|list| write_rules(&list)), "joined", 0);
+    }
+}
+
 /// The text that is written has this ending; of two spaces its own is this one.
 fn check_turned(path: &Path, turned: Result<Vec<u8>, Refused>, end: &str, space: usize) {
     let refused = path.with_extension("refused").exists();
@@ -73,8 +86,8 @@ fn handed_over(path: &Path) -> Result<(String, String), Refused> {
     Ok((shown(&run.answers), shown(&run.state)))
 }
 
-/// The bytes lent, where they matter: for the answers and for the state, or for the rules and for
-/// the policies.
+/// The bytes lent, where they matter: for the answers and for the state, for the rules and for the
+/// policies, or for the joined list.
 fn spaces(path: &Path) -> Option<Vec<usize>> {
     path.with_extension("spaces").exists().then(|| {
         let lengths = shown(&text(path, "spaces"));
@@ -90,6 +103,7 @@ fn written(Refused { number, text, place }: Refused) -> String {
         Text::OutputSpace => "output-space",
         Text::StateSpace => "state-space",
         Text::Policies => "policies",
+        Text::SecondRules => "second-rules",
         other => panic!("a text that the documents do not have: {other}"),
     };
     format!("(refused {name} {number} {place})\n")

@@ -1,4 +1,4 @@
-//! What `handover` and `policies` share: how they end, how they print a refusal, and spaces that show what was written.
+//! What `handover`, `policies` and `join` share: how they end, how they print a refusal, and spaces that show what was written.
 
 use pitch_gate::{Refusal, Text};
 use std::error::Error;
@@ -39,6 +39,7 @@ fn word(text: Text) -> &'static str {
         Text::OutputSpace => "output-space",
         Text::StateSpace => "state-space",
         Text::Policies => "policies",
+        Text::SecondRules => "second-rules",
         _ => "other",
     }
 }

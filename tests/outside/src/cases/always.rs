@@ -1,5 +1,6 @@
 //! The cases of every run: edges of numbers, longest inputs, the fullest state.
 
+use super::joined::compare_joins;
 use super::loans::compare_loans;
 use super::places::{compare_saved_reports, compare_written_errors, error_sweeps};
 use super::policies::compare_policies;
@@ -30,6 +31,7 @@ pub fn compare_always(comparison: &mut Comparison) -> Compared {
     compare_loans(comparison)?;
     compare_rights(comparison)?;
     compare_policies(comparison)?;
+    compare_joins(comparison)?;
     compare_sweep(comparison, calendar_sweep())?;
     compare_sweep(comparison, place_sweep())?;
     compare_written_errors(comparison)?;

@@ -1,6 +1,7 @@
 //! The cases: those of a seed, and those of every run.
 
 pub mod always;
+mod joined;
 mod loans;
 mod places;
 mod policies;

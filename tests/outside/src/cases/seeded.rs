@@ -1,6 +1,7 @@
 //! A world, rules, a state and steps, all drawn from one seed; then their texts damaged.
 
 use super::input;
+use super::joined::compare_seeded_joins;
 use super::policies::compare_seeded_policies;
 use super::safety::compare_own_steps;
 use crate::compare::{Compared, Comparison};
@@ -30,7 +31,8 @@ pub fn compare_seed(comparison: &mut Comparison, seed: u64) -> Compared {
         texts.compare_damaged(comparison, &mut random)?;
     }
     compare_own_steps(comparison, &mut random)?;
-    compare_seeded_policies(comparison, &mut random)
+    compare_seeded_policies(comparison, &mut random)?;
+    compare_seeded_joins(comparison, &mut random)
 }
 
 struct Texts {

@@ -24,6 +24,9 @@ pub fn compare_vectors(comparison: &mut Comparison) -> Compared {
     for path in vectors("policies", "rules") {
         comparison.policies_from_rules(&text(&path, "rules"))?;
     }
+    for path in vectors("joined", "first") {
+        comparison.join_rules(&text(&path, "first"), &text(&path, "second"))?;
+    }
     Ok(())
 }
 

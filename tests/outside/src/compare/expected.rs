@@ -3,6 +3,7 @@
 use super::Shown;
 use crate::plain::form::Bad;
 use crate::plain::gate::{self, Watch};
+use crate::plain::joined::join;
 use crate::plain::policies::{read_policies, write_policies};
 use crate::plain::ranges::LONGEST_INPUT;
 use crate::plain::rule_text::read_rules;
@@ -38,6 +39,18 @@ pub fn accepted_policies(policies: &[u8]) -> Result<RuleList, Refused> {
 /// What has no policy line is something of the rule list.
 pub fn written_policies(list: &RuleList) -> Result<Vec<u8>, Refused> {
     write_policies(list).map_err(|bad| about(Text::Rules, bad))
+}
+
+/// Two lists that are to be joined (2026-07): the first text is read before the second.
+pub fn accepted_pair(first: &[u8], second: &[u8]) -> Result<[RuleList; 2], Refused> {
+    let first = accepted_rules(first)?;
+    let second = read_rules(second).map_err(|bad| about(Text::SecondRules, bad))?;
+    Ok([first, second])
+}
+
+/// What keeps two lists from being joined is a line of the second.
+pub fn joined_list([first, second]: &[RuleList; 2]) -> Result<RuleList, Refused> {
+    join(first, second).map_err(|bad| about(Text::SecondRules, bad))
 }
 
 pub fn accepted_state(rules: &[u8], state: &[u8]) -> Result<(RuleList, State), Refused> {

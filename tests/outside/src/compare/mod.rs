@@ -1,10 +1,13 @@
 //! The library against the plain gate, byte for byte.
 
 pub mod expected;
+mod joined;
 mod policies;
 mod space;
 
-use crate::counts::{Counts, INPUT, OUTPUT_SPACE, POLICIES, RULES, STATE, STATE_SPACE, STEPS_TEXT};
+use crate::counts::{
+    Counts, INPUT, OUTPUT_SPACE, POLICIES, RULES, SECOND_RULES, STATE, STATE_SPACE, STEPS_TEXT,
+};
 use crate::generate::random::Random;
 use crate::plain::form::Bad;
 use crate::plain::gate;
@@ -310,6 +313,7 @@ fn name(text: Text) -> &'static str {
         Text::OutputSpace => OUTPUT_SPACE,
         Text::StateSpace => STATE_SPACE,
         Text::Policies => POLICIES,
+        Text::SecondRules => SECOND_RULES,
         other => panic!("a text that the documents do not have: {other}"),
     }
 }

@@ -3,6 +3,7 @@
 
 pub mod damage;
 pub mod edges;
+pub mod joined;
 mod loan_damage;
 pub mod loans;
 pub mod place_damage;

@@ -96,6 +96,11 @@ fn length(random: &mut Random) -> usize {
     }
 }
 
+pub fn any_rule(random: &mut Random, world: &World) -> Rule {
+    let family = random.below(FAMILIES);
+    rule(random, world, family)
+}
+
 fn rule(random: &mut Random, world: &World, family: usize) -> Rule {
     let (role, other) = world.two_roles(random);
     let (permission, other_permission) = world.two_permissions(random);

@@ -3,6 +3,7 @@
 pub mod calendar;
 pub mod form;
 pub mod gate;
+pub mod joined;
 pub mod largest;
 pub mod numbers;
 pub mod own_steps;
