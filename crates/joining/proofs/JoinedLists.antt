@@ -236,6 +236,14 @@ module _ (first second : RuleList) (kinds : length (first .rights) ≡ 6) (secon
       (λ other. rw (other .3) (list-accepted noRights [] none-good))
       (join-number first second)
 
+-- it has a right, or none, for each kind
+pub join-kinds : (first second : RuleList) → length (joinOf first second .list .rights) ≡ 6
+unfolding noRights
+join-kinds first second = ⊎-elim
+    (λ none. ap length (rights-joined first second none) ∙ joined-kinds (first .rights) (second .rights))
+    (λ other. ap (λ (j : Joined). length (j .list .rights)) (other .3) ∙ ap length (list-rights noRights []))
+    (join-number first second)
+
 -- ---- a list with itself and with the empty one
 
 -- no right differs from itself
@@ -272,7 +280,7 @@ empty-rules : (list : RuleList) → Empty list → rulesOf list ≡ []
 empty-rules list empty = rw (empty .0)
 
 module _ (list : RuleList) (accepted : Accepted list) where
-  itself : joinOf list list ≡ record { number = 0; place = 0; list = listOf (list .rights) (rulesOf list) }
+  pub itself : joinOf list list ≡ record { number = 0; place = 0; list = listOf (list .rights) (rulesOf list) }
   itself =
       same-joined list list list accepted (accepted .2) (accepted .2) (itself-agrees (list .rights)) (λ kind below. right-itself (rightAt (list .rights) kind)) (joined-itself (rulesOf list))
     where
@@ -285,7 +293,7 @@ module _ (list : RuleList) (accepted : Accepted list) where
   with-itself = (ap (λ (j : Joined). j .number) itself, rw itself (same-rules list (accepted .0) (accepted-most list (accepted .2))))
 
   module _ (other : RuleList) (other-accepted : listAccepted other ≡ true) (empty : Empty other) where
-    after-empty : joinOf list other ≡ record { number = 0; place = 0; list = listOf (list .rights) (rulesOf list) }
+    pub after-empty : joinOf list other ≡ record { number = 0; place = 0; list = listOf (list .rights) (rulesOf list) }
     unfolding joinedRules
     after-empty =
         same-joined list list other accepted (accepted .2) other-accepted
@@ -302,7 +310,7 @@ module _ (list : RuleList) (accepted : Accepted list) where
     with-empty = (ap (λ (j : Joined). j .number) after-empty, rw after-empty (same-rules list (accepted .0) (accepted-most list (accepted .2))))
 
     module _ (single : NoDoubles (rulesOf list)) where
-      before-empty : joinOf other list ≡ record { number = 0; place = 0; list = listOf (list .rights) (rulesOf list) }
+      pub before-empty : joinOf other list ≡ record { number = 0; place = 0; list = listOf (list .rights) (rulesOf list) }
       before-empty =
           same-joined list other list accepted other-accepted (accepted .2)
           (none-differ (other .rights) (list .rights) .1 (λ kind below differ. unstated-differs (empty .1 kind below) (differ .2)))

@@ -16,3 +16,4 @@ pub mod RuleSizes
 pub mod PolicySizes
 pub mod Journeys
 pub mod JoinedTexts
+pub mod Joins
