@@ -1,4 +1,4 @@
-// Malformed texts and texts at their edges (document 01, 'Texts' and 'Refused'; request 2026-06 for policies). The file stdin has the cases and says how they are written.
+// Malformed texts and texts at their edges (document 01, 'Texts' and 'Refused'; request 2026-06 for policies, 2026-07 for lists joined). The file stdin has the cases and says how they are written.
 // The file stdout has what each must give: it was worked out from the document and not taken from a run.
 mod quoting;
 mod reading;
@@ -8,13 +8,14 @@ ghost use Prim.Native.Nat.{_≤_, _<_};
 ghost use lib.ListN.{length};
 use reading::Loaded;
 
-// The kinds of cases, numbered from 0: 0 to 4 load something, 5 to 10 write.
-const KINDS: [u8; 115] = *b"\
+// The kinds of cases, numbered from 0: 0 to 5 load something, 6 to 11 write.
+const KINDS: [u8; 121] = *b"\
 rules:\n\
 saved:\n\
 length:\n\
 time:\n\
 policies:\n\
+join:\n\
 input:\n\
 long input:\n\
 write rules:\n\
@@ -92,7 +93,7 @@ fn answered(loaded: Loaded, kind: usize, arguments: &[u8]) -> Loaded {
     let length = quoting::text_of(arguments, &mut space);
     let text = quoting::front(&space, length);
     let number = quoting::number_at(arguments, b" ?", 0);
-    if kind < 5 {
+    if kind < 6 {
         return reading::loaded_by(loaded, kind, text, number);
     }
     writing::written(loaded, kind, text, room_of(kind, number));
@@ -102,8 +103,8 @@ fn answered(loaded: Loaded, kind: usize, arguments: &[u8]) -> Loaded {
 // An input's response has 1,024 bytes, a long input's all.
 fn room_of(kind: usize, number: u64) -> usize {
     match kind {
-        5 => 1024,
-        6 => texts::ROOM,
+        6 => 1024,
+        7 => texts::ROOM,
         _ => number as usize,
     }
 }

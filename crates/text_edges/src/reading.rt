@@ -1,4 +1,4 @@
-// Rule lists, policies and saved states, read.
+// Rule lists, policies and saved states, read; and rule lists joined.
 use enforcement::State;
 use rule_text::LoadedRules;
 use rules::RuleList;
@@ -25,7 +25,8 @@ pub(crate) fn loaded_by(loaded: Loaded, kind: usize, text: &[u8], number: u64) -
         1 => read_saved(loaded, text),
         2 => with_length(loaded, number),
         3 => with_time(loaded, number),
-        _ => read_policies(loaded, text),
+        4 => read_policies(loaded, text),
+        _ => join(loaded, text),
     }
 }
 
@@ -40,6 +41,27 @@ fn read_policies(loaded: Loaded, text: &[u8]) -> Loaded {
 fn with_list(loaded: Loaded, read: LoadedRules) -> Loaded {
     show(read.number, read.line);
     let list = read.list;
+    let state = loaded.state;
+    Loaded { list, state }
+}
+
+// The rules that were read last joined with those of a text; on a refusal they stay.
+fn join(loaded: Loaded, text: &[u8]) -> Loaded {
+    let read = rule_text::read_rules(text);
+    if read.number != 0 {
+        show(read.number, read.line);
+        return loaded;
+    }
+    let first = loaded.list;
+    let second = read.list;
+    let joined = joining::join(first, second);
+    if joined.number != 0 {
+        say_at(joined.number, b" place ", joined.place);
+        return loaded;
+    }
+    let list = joined.list;
+    io::print_decimal(1, list.length as u64);
+    say(b" rules");
     let state = loaded.state;
     Loaded { list, state }
 }

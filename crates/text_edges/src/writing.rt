@@ -23,9 +23,9 @@ pub(crate) fn written(loaded: Loaded, kind: usize, text: &[u8], room: usize) {
     let written = lend(loaded, kind, text, &mut space, room);
     let front = quoting::front(&space, length_of(written));
     match kind {
-        5 => quoting::show(front),
-        6 => show(written),
-        7..=10 => show_space(written, front, quoting::front(&space, 1024)),
+        6 => quoting::show(front),
+        7 => show(written),
+        8..=11 => show_space(written, front, quoting::front(&space, 1024)),
         _ => no_kind(),
     }
 }
@@ -41,9 +41,9 @@ fn written_by(loaded: Loaded, kind: usize, text: &[u8], out: &mut [u8]) -> Writt
     let list = loaded.list;
     let state = loaded.state;
     match kind {
-        7 => rule_text::write_rules(list, out),
-        8 => state_text::write_state(state, out),
-        10 => write_policies(list, out),
+        8 => rule_text::write_rules(list, out),
+        9 => state_text::write_state(state, out),
+        11 => write_policies(list, out),
         _ => texts::respond(text, out),
     }
 }

@@ -106,14 +106,14 @@ module _ (first second : List ℕ) where
   which : (room : ℕ) → Case room
   which room = ⊎-elim
       (λ none. ⊎-elim
-          (λ second-none. case-both room none second-none)
-          (λ some. bad Text.SecondRules (readRules second .number) (readRules second .line) some (line-number second some)
-              (second-bad (readRules second .number) (readRules second .line) none (ruleText.first-bad second (readRules second .number) (readRules second .line) some .0 (refl, refl)))
-              (report-second room none some))
-          (zero-or-some (readRules second .number)))
+      (λ second-none. case-both room none second-none)
+      (λ some. bad Text.SecondRules (readRules second .number) (readRules second .line) some (line-number second some)
+      (second-bad (readRules second .number) (readRules second .line) none (ruleText.first-bad second (readRules second .number) (readRules second .line) some .0 (refl, refl)))
+      (report-second room none some))
+      (zero-or-some (readRules second .number)))
       (λ some. bad Text.Rules (readRules first .number) (readRules first .line) some (line-number first some)
-          (first-bad (readRules first .number) (readRules first .line) (ruleText.first-bad first (readRules first .number) (readRules first .line) some .0 (refl, refl)))
-          (report-first room some))
+      (first-bad (readRules first .number) (readRules first .line) (ruleText.first-bad first (readRules first .number) (readRules first .line) some .0 (refl, refl)))
+      (report-first room some))
       (zero-or-some (readRules first .number))
 
   -- ---- own cause of each number
@@ -181,7 +181,7 @@ module _ (first second text : List ℕ) (none : readRules first .number ≡ 0) (
       ap (λ (l : LoadedRules). textOf (l .list)) (joined-both first second 0 none second-none)
       ∙ ap (λ (j : Joined). textOf (j .list)) same
       ∙ rw (list-rights (rulesIn text .rights) (rulesOf (rulesIn text)), rules-of-list (rulesIn text .rights) (rulesOf (rulesIn text)) (list-few (rulesIn text) (read-whole text .2)))
-        (ruleText.write-back text (rulesIn text) (loaded-list (readLines text) text-none))
+      (ruleText.write-back text (rulesIn text) (loaded-list (readLines text) text-none))
 
   same-report : (room : ℕ) → length text ≤ room → joinReport (readRules first) (readRules second) room ≡ writtenReport (length text) 0
   unfolding outputReport
