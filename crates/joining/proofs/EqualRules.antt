@@ -1,15 +1,14 @@
 -- Two rules are equal just where their lines are, number aside, and of accepted rules just where they are the same rule.
 -- Assumes nothing.
 use mathlib.Core.Path.{_≡_, refl, sym, ap, _∙_}
-use mathlib.Core.Bool.{Bool, true, false, not, _&&_}
+use mathlib.Core.Bool.{true, _&&_}
 use mathlib.Core.Logic.{_↔_}
-use mathlib.Core.List.{List, [], _∷_, _++_, append-nil}
+use mathlib.Core.List.{List, [], _∷_, _++_}
 use Prim.Native.Nat.{ℕ, _≤_, _<_}
 use native.Mathlib.Omega.{arith}
 use lib.ListN.{getD}
 use lib.Dec.{eqb}
 use borrow.Author.Tests.{eqb-true, eq-eqb}
-use Rattle.sets.specs.Sets.{all}
 use Rattle.sets.proofs.Booleans.{both-true, left-true, right-true}
 use Rattle.sets.proofs.Bounded.{all-of, of-all}
 use Rattle.rules.specs.Acceptance.{ruleInRange, ruleDistinct, ruleSound, ruleAccepted}

@@ -1,17 +1,17 @@
 -- THEOREMS on two lists joined: what is joined obeys as both, keeps every rule and right, is accepted, and each refusal has its own cause.
 -- Assumes nothing.
 use mathlib.Core.Path.{_≡_, refl, sym, ap, _∙_}
-use mathlib.Core.Bool.{Bool, true, false, cond, _&&_, true≢false}
+use mathlib.Core.Bool.{Bool, true, false, cond, _&&_}
 use mathlib.Core.Logic.{_↔_, _⊎_, inl, inr, ⊎-elim}
-use mathlib.Core.List.{List, []}
-use Prim.Native.Nat.{ℕ, zero, suc, _+_, _≤_, _<_}
+use mathlib.Core.List.{List, [], _∷_, _++_}
+use Prim.Native.Nat.{ℕ, suc, _+_, _≤_, _<_}
 use native.Mathlib.Omega.{arith}
-use lib.ListN.{length, take, length-map, length-take}
+use lib.ListN.{length}
 use lib.Seq.{ext-getD}
 use lib.Dec.{ltb}
 use borrow.Author.Tests.{lt-ltb, le-ltb, ltb-true, ltb-false}
 use Rattle.sets.proofs.Booleans.{both-true, left-true, right-true, of-and-false, clash}
-use Rattle.rules.specs.Acceptance.{ruleOf, ruleAccepted, unstated, rightAt, rightAccepted, every, rulesOf, listAccepted}
+use Rattle.rules.specs.Acceptance.{unstated, rightAt, rightAccepted, every, rulesOf, listAccepted}
 use Rattle.rules.specs.declared.families.Rule.{Rule}
 use Rattle.rules.specs.declared.rights.Right.{Right}
 use Rattle.rules.specs.declared.rights.Right.the-variants.{Unstated, Permission}
@@ -24,16 +24,41 @@ use Rattle.rule_text.specs.Reading.{noRights, listOf, SameRules}
 use Rattle.rule_text.specs.Causes.{GoodLines}
 use Rattle.rule_text.proofs.Slots.{list-rights, rules-of-list, list-accepted, list-few, accepted-most, accepted-rules, accepted-good, none-good, same-rules}
 use Rattle.rule_text.proofs.Back.{Accepted}
-use Rattle.enforcement.specs.Plain.{obeys}
+use Rattle.steps.specs.Lowest.{lowest}
+use Rattle.steps.specs.declared.lowest.Lowest.{Lowest}
+use Rattle.steps.specs.declared.lowest.Lowest.the-variants.{Unbroken, BrokenAt}
+use Rattle.enforcement.specs.Plain.{obeys, lowestBroken}
 use Rattle.enforcement.specs.Claims.{In, Holds}
 use Rattle.enforcement.specs.States.{ruleHolds}
 use Rattle.enforcement.specs.declared.states.State.{State}
 use Rattle.enforcement.proofs.Holding.{obeys-means}
-use Rattle.joining.specs.Joining.{joinedRules, joinedRight, joinedRights, rightsAgree, rightsTested, tooManyAt, refusedJoin, rulesJoined, joinedUnder, joinOf, ObeyedAsBoth}
-use Rattle.joining.specs.Claims.{NoDoubles, Joins, KeepsRights, Differ, JoinRefused, first-refused, second-refused, rights-differ, too-many}
+use Rattle.joining.specs.Joining.{joinedRules, joinedRight, joinedRights, rightsTested, tooManyAt, refusedJoin, rulesJoined, joinedUnder, joinOf, ObeyedAsBoth}
+use Rattle.joining.specs.Claims.{NoDoubles, Joins, KeepsRights, JoinRefused, first-refused, second-refused, rights-differ, too-many}
 use Rattle.joining.specs.declared.lists.Joined.{Joined}
 use Rattle.joining.proofs.Rules.{every-joined, joined-accepted, joins, joined-itself, joined-empty, TooMany, too-many-whole, too-many-told, too-many-there}
 use Rattle.joining.proofs.Rights.{right-accepted, none-differ, first-differs, joined-at, joined-kinds, right-joined, keeps-rights}
+
+-- ---- the lowest broken rule of a list that continues another
+
+abbrev isBroken : Lowest → Bool
+isBroken Unbroken = false
+isBroken (BrokenAt n) = true
+
+lowest-after : (test : Rule → Bool) (n : ℕ) (rules others : List Rule) → every test rules ≡ true → lowest test n (rules ++ others) ≡ lowest test (n + length rules) others
+unfolding lowest every
+lowest-after test n [] others h = ap (λ (m : ℕ). lowest test m others) (omega arith)
+lowest-after test n (rule ∷ rules) others h =
+    rw (left-true (test rule) (every test rules) h)
+    (lowest-after test (suc n) rules others (right-true (test rule) (every test rules) h) ∙ ap (λ (m : ℕ). lowest test m others) (omega arith))
+
+lowest-from : (test : Rule → Bool) (n : ℕ) (rules : List Rule) {m : ℕ} → lowest test n rules ≡ BrokenAt m → n ≤ m
+unfolding lowest
+lowest-from test n [] {m} e = let other : isBroken Unbroken ≡ isBroken (BrokenAt m) = ap isBroken e in clash refl (sym other)
+lowest-from test n (rule ∷ rules) {m} e = go (lowest-from test (suc n) rules) (test rule) e
+  where
+    go : (lowest test (suc n) rules ≡ BrokenAt m → suc n ≤ m) → (b : Bool) → cond b (lowest test (suc n) rules) (BrokenAt n) ≡ BrokenAt m → n ≤ m
+    go later true h = omega (arith, later h)
+    go later false h = let same : n ≡ m = cc in omega (arith, same)
 
 module _ (first second : RuleList) where
   abbrev rightsOfBoth : List RightSlot
@@ -54,13 +79,20 @@ module _ (first second : RuleList) where
     join-under e = rw (accepted, second-accepted, e)
 
     module _ (kept : rightsTested (first .rights) (second .rights) ≡ Kept) where
+      joined-if : Bool → Joined
+      joined-if many = cond many (refusedJoin 57 (tooManyAt 1 (rulesOf first) (rulesOf second))) (record { number = 0; place = 0; list = listOf rightsOfBoth rulesOfBoth })
+
+      by-length : joined-if (ltb 128 (length rulesOfBoth)) ≡ joinOf first second
+      unfolding joined-if rulesJoined
+      by-length = join-under kept
+
       join-57 : 128 < length rulesOfBoth → refusedJoin 57 (tooManyAt 1 (rulesOf first) (rulesOf second)) ≡ joinOf first second
-      unfolding rulesJoined
-      join-57 many = sym (rw (lt-ltb 128 (length rulesOfBoth) many)) ∙ join-under kept
+      unfolding joined-if
+      join-57 many = ap joined-if (sym (lt-ltb 128 (length rulesOfBoth) many)) ∙ by-length
 
       join-whole : length rulesOfBoth ≤ 128 → record { number = 0; place = 0; list = listOf rightsOfBoth rulesOfBoth } ≡ joinOf first second
-      unfolding rulesJoined
-      join-whole few = sym (rw (le-ltb 128 (length rulesOfBoth) few)) ∙ join-under kept
+      unfolding joined-if
+      join-whole few = ap joined-if (sym (le-ltb 128 (length rulesOfBoth) few)) ∙ by-length
 
   -- ---- which case it is
 
@@ -207,6 +239,14 @@ module _ (first second : RuleList) where
           λ h. obeys-means joined s .0
               (same ∙ both-true (obeys (rulesOf first) s) (obeys (rulesOf second) s) (obeys-means (rulesOf first) s .1 (h .0)) (obeys-means (rulesOf second) s .1 (h .1))),
         )
+
+    -- THEOREM: a state that obeys the first list breaks no rule of the joined one but those past it
+    pub broken-past-first : (s : State) (rule : ℕ) → obeys (rulesOf first) s ≡ true → lowestBroken (rulesOf (joinOf first second .list)) s ≡ BrokenAt rule → length (rulesOf first) < rule
+    broken-past-first s rule obeyed broken =
+        let test : Rule → Bool = λ k. ruleHolds k s in
+        let found : lowest test (1 + length (rulesOf first)) (list-joins .past) ≡ BrokenAt rule =
+        sym (ap (lowest test 1) (list-joins .front) ∙ lowest-after test 1 (rulesOf first) (list-joins .past) obeyed) ∙ broken in
+        omega (arith, lowest-from test (1 + length (rulesOf first)) (list-joins .past) found)
 
   -- what `join` promises
   pub obeyed-as-both : {joined : Joined} → joined ≡ joinOf first second → ObeyedAsBoth first second joined

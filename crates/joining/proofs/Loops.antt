@@ -2,7 +2,6 @@
 -- Assumes nothing.
 use mathlib.Core.Path.{_≡_, refl, sym, ap, _∙_}
 use mathlib.Core.Bool.{Bool, true, false}
-use mathlib.Core.Logic.{⊎-elim}
 use mathlib.Core.List.{List, [], _∷_, _++_, map, map-append}
 use Prim.Native.Nat.{ℕ, suc, _+_, _≤_, _<_}
 use native.Mathlib.Nat.{add-zero}
@@ -10,9 +9,7 @@ use native.Mathlib.Numerals.{add-one}
 use native.Mathlib.Omega.{arith}
 use lib.ListN.{length, take, drop, set, getD, length-append, length-map, drop-of-length-le, List·getD-map}
 use lib.Seq.{sets, take-suc, drop-cons, getD-take, length-take-le}
-use lib.Dec.{ltb}
-use borrow.Author.Tests.{lt-ltb, le-ltb, ltb-true, ltb-false}
-use Rattle.sets.proofs.Booleans.{clash}
+use borrow.Author.Tests.{lt-ltb, le-ltb}
 use Rattle.rules.specs.Acceptance.{ruleOf, rulesOf}
 use Rattle.rules.specs.declared.families.Rule.{Rule}
 use Rattle.rules.specs.declared.rights.RightSlot.{RightSlot}
@@ -20,10 +17,8 @@ use Rattle.rules.specs.declared.lists.Slot.{Slot}
 use Rattle.rules.specs.declared.lists.RuleList.{RuleList}
 use Rattle.rule_text.specs.Reading.{slot, unusedSlots, listOf}
 use Rattle.rule_text.proofs.Slots.{list-length, list-rights, rules-of-list, slots-length}
-use Rattle.joining.specs.Joining.{equalsNone, withNew, joinedRules, tooManyAt, addedTo, refusedJoin, rulesJoined}
-use Rattle.joining.specs.declared.lists.Joined.{Joined}
-use Rattle.joining.specs.declared.lists.Added.{Added}
-use Rattle.joining.proofs.Rules.{new-taken, equal-left, new-length, joined-length}
+use Rattle.joining.specs.Joining.{equalsNone, withNew, joinedRules, tooManyAt, refusedJoin, rulesJoined}
+use Rattle.joining.proofs.Rules.{new-taken, equal-left, joined-length}
 
 -- ---- one rule more
 
@@ -109,38 +104,6 @@ module _ {rights : List RightSlot} {first list : RuleList} {i : ℕ} (copied : C
       let all : i ≡ first .length = omega (arith, copied .last) in
       copied .same ∙ (λ j. listOf (e j) (map ruleOf (take (all j) (first .slots))))
 
--- ---- one rule of the second list
-
-module _ {list : RuleList} (made : list ≡ listOf (list .rights) (rulesOf list)) (few : list .length ≤ 128) (rule : Rule) where
-  made-count : length (rulesOf list) ≡ list .length
-  made-count = sym (ap (λ (l : RuleList). l .length) made ∙ list-length (list .rights) (rulesOf list))
-
-  pub added-equal : equalsNone rule (rulesOf list) ≡ false → record { full = false; list = list } ≡ addedTo (list .rights) (rulesOf list) rule
-  unfolding addedTo
-  added-equal e =
-      rw (equal-left (rulesOf list) rule e, le-ltb 128 (length (rulesOf list)) (omega (arith, made-count)))
-      (ap (λ (l : RuleList). record { full = false; list = l }) made)
-
-  pub added-full : equalsNone rule (rulesOf list) ≡ true → list .length ≡ 128 → record { full = true; list = list } ≡ addedTo (list .rights) (rulesOf list) rule
-  unfolding addedTo
-  added-full e all =
-      let more : 128 < length (rulesOf list ++ rule ∷ []) = omega (arith, all, made-count, length-append (rulesOf list) (rule ∷ [])) in
-      rw (new-taken (rulesOf list) rule e, lt-ltb 128 (length (rulesOf list ++ rule ∷ [])) more)
-      (ap (λ (l : RuleList). record { full = true; list = l }) made)
-
-  pub added-new : equalsNone rule (rulesOf list) ≡ true → (list .length ≡ 128 → ⊥)
-      → record { full = false; list = record { slots = set (list .slots) (list .length) (slot rule); length = list .length + 1; rights = list .rights } } ≡ addedTo (list .rights) (rulesOf list) rule
-  unfolding addedTo
-  added-new e room =
-      let fits : length (rulesOf list ++ rule ∷ []) ≤ 128 = fit (list .length) room few (length-append (rulesOf list) (rule ∷ []) ∙ ap (λ (n : ℕ). n + 1) made-count) in
-      rw (new-taken (rulesOf list) rule e, le-ltb 128 (length (rulesOf list ++ rule ∷ [])) fits)
-      (ap (λ (l : RuleList). record { full = false; list = l })
-      (ap (λ (l : RuleList). record { slots = set (l .slots) (list .length) (slot rule); length = list .length + 1; rights = list .rights }) made
-      ∙ one-more (list .rights) (rulesOf list) rule (list .length) (sym made-count)))
-    where
-      fit : {m : ℕ} (n : ℕ) → (n ≡ 128 → ⊥) → n ≤ 128 → m ≡ n + 1 → m ≤ 128
-      fit n other most same = omega (arith, other, most, same)
-
 -- ---- the loop over the second list
 
 -- what was joined and what joining the rest gives are together what joining the lists gives
@@ -166,10 +129,6 @@ joining-start rights first {second} {list} slots most e few = record {
 }
 
 module _ {rights : List RightSlot} {first : List Rule} {second list : RuleList} {i : ℕ} (joining : Joining rights first second list i) where
-  -- the list is made of the rules joined so far
-  pub joining-made : list ≡ listOf (list .rights) (rulesOf list)
-  joining-made = made-again rights (joining .joined) (joining .same) (joining .few)
-
   pub joining-few : list .length ≤ 128
   joining-few = omega (arith, joining .few, ap (λ (l : RuleList). l .length) (joining .same) ∙ list-length rights (joining .joined))
 
@@ -180,7 +139,7 @@ module _ {rights : List RightSlot} {first : List Rule} {second list : RuleList} 
       ap (λ (l : RuleList). record { number = 0; place = 0; list = l }) (joining .same)
       ∙ rw (le-ltb 128 (length (joining .joined)) (joining .few)) at (rw nothing at (joining .whole))
 
-  module _ (more : i < second .length) (d : Slot) {added : Added} (given : added ≡ addedTo (list .rights) (rulesOf list) (ruleOf (getD (second .slots) i d))) where
+  module _ (more : i < second .length) (d : Slot) where
     abbrev next : Rule
     next = ruleOf (getD (second .slots) i d)
 
@@ -189,33 +148,68 @@ module _ {rights : List RightSlot} {first : List Rule} {second list : RuleList} 
         drop-cons (rulesOf second) i (ruleOf d) (omega (arith, rules-count second (joining .slots) (joining .most)))
         ∙ ap (λ (rule : Rule). rule ∷ drop (suc i) (rulesOf second)) (rule-at second (joining .slots) (joining .most) i more d)
 
-    added-is : added ≡ addedTo rights (joining .joined) next
-    added-is = given ∙ (λ j. addedTo (made-rights rights (joining .joined) (joining .same) j) (made-rules rights (joining .joined) (joining .same) (joining .few) j) next)
+    -- what the code compares with is what was joined
+    compared : {b : Bool} → equalsNone next (rulesOf list) ≡ b → equalsNone next (joining .joined) ≡ b
+    compared e = ap (equalsNone next) (sym (made-rules rights (joining .joined) (joining .same) (joining .few))) ∙ e
 
-    pub joining-stop : added .full ≡ true → refusedJoin 57 (i + 1) ≡ rulesJoined 1 rights first (rulesOf second)
-    unfolding rulesJoined joinedRules tooManyAt addedTo
-    joining-stop full = go (ltb 128 (length (withNew (joining .joined) next))) refl
-      where
-        go : (b : Bool) → ltb 128 (length (withNew (joining .joined) next)) ≡ b → refusedJoin 57 (i + 1) ≡ rulesJoined 1 rights first (rulesOf second)
-        go true e =
-            let many = ltb-true 128 (length (withNew (joining .joined) next)) e in
-            let whole : 128 < length (joinedRules (withNew (joining .joined) next) (drop (suc i) (rulesOf second))) = omega (arith, many, joined-length (withNew (joining .joined) next) (drop (suc i) (rulesOf second))) in
-            ap (refusedJoin 57) (add-one i)
-            ∙ rw (lt-ltb 128 (length (joinedRules (withNew (joining .joined) next) (drop (suc i) (rulesOf second)))) whole, e) at (rw ahead at (joining .whole))
-        go false e = clash (sym (ap (λ (a : Added). a .full) added-is) ∙ full) (rw e)
+    counted : list .length ≡ length (joining .joined)
+    counted = ap (λ (l : RuleList). l .length) (joining .same) ∙ list-length rights (joining .joined)
 
-    pub joining-turn : added .full ≡ false → Joining rights first second (added .list) (i + 1)
-    unfolding rulesJoined joinedRules tooManyAt addedTo
-    joining-turn room = go (ltb 128 (length (withNew (joining .joined) next))) refl
-      where
-        go : (b : Bool) → ltb 128 (length (withNew (joining .joined) next)) ≡ b → Joining rights first second (added .list) (i + 1)
-        go true e = clash (rw e) (sym (ap (λ (a : Added). a .full) added-is) ∙ room)
-        go false e = record {
+    -- the rest after it
+    after-next : length (withNew (joining .joined) next) ≤ 128
+        → rulesJoined (suc (suc i)) rights (withNew (joining .joined) next) (drop (suc i) (rulesOf second)) ≡ rulesJoined 1 rights first (rulesOf second)
+    unfolding rulesJoined joinedRules tooManyAt
+    after-next few = rw (le-ltb 128 (length (withNew (joining .joined) next)) few) at (rw ahead at (joining .whole))
+
+    -- it equals one that is there
+    pub joining-equal : equalsNone next (rulesOf list) ≡ false → Joining rights first second list (i + 1)
+    joining-equal e =
+        let same = equal-left (joining .joined) next (compared e) in
+        record {
           last = omega arith;
           most = joining .most;
           slots = joining .slots;
-          joined = withNew (joining .joined) next;
-          same = ap (λ (a : Added). a .list) added-is ∙ rw e;
-          few = ltb-false 128 (length (withNew (joining .joined) next)) e;
-          whole = rw (add-one i) (rw e at (rw ahead at (joining .whole)));
+          joined = joining .joined;
+          same = joining .same;
+          few = joining .few;
+          whole = rw (add-one i) (rw same at (after-next (rw same (joining .few))));
         }
+
+    module _ (e : equalsNone next (rulesOf list) ≡ true) where
+      taken : withNew (joining .joined) next ≡ joining .joined ++ next ∷ []
+      taken = new-taken (joining .joined) next (compared e)
+
+      sized : length (joining .joined ++ next ∷ []) ≡ list .length + 1
+      sized = length-append (joining .joined) (next ∷ []) ∙ ap (λ (n : ℕ). n + 1) (sym counted)
+
+      -- it is new, and there is a place for it
+      pub joining-new : (list .length ≡ 128 → ⊥)
+          → Joining rights first second (record { slots = set (list .slots) (list .length) (slot next); length = list .length + 1; rights = list .rights }) (i + 1)
+      joining-new room =
+          let fits : length (joining .joined ++ next ∷ []) ≤ 128 = below (list .length) room joining-few sized in
+          record {
+            last = omega arith;
+            most = joining .most;
+            slots = joining .slots;
+            joined = joining .joined ++ next ∷ [];
+            same =
+                ap (λ (l : RuleList). record { slots = set (l .slots) (list .length) (slot next); length = list .length + 1; rights = l .rights }) (joining .same)
+                ∙ ap (λ (given : List RightSlot). record { slots = set (listOf rights (joining .joined) .slots) (list .length) (slot next); length = list .length + 1; rights = given })
+                (list-rights rights (joining .joined))
+                ∙ one-more rights (joining .joined) next (list .length) counted;
+            few = fits;
+            whole = rw (add-one i) (rw taken at (after-next (rw taken fits)));
+          }
+        where
+          below : {m : ℕ} (n : ℕ) → (n ≡ 128 → ⊥) → n ≤ 128 → m ≡ n + 1 → m ≤ 128
+          below n other most same = omega (arith, other, most, same)
+
+      -- or none
+      pub joining-stop : list .length ≡ 128 → refusedJoin 57 (i + 1) ≡ rulesJoined 1 rights first (rulesOf second)
+      unfolding rulesJoined joinedRules tooManyAt
+      joining-stop all =
+          let many : 128 < length (withNew (joining .joined) next) = rw taken (omega (arith, all, sized)) in
+          let whole : 128 < length (joinedRules (withNew (joining .joined) next) (drop (suc i) (rulesOf second))) =
+          omega (arith, many, joined-length (withNew (joining .joined) next) (drop (suc i) (rulesOf second))) in
+          ap (refusedJoin 57) (add-one i)
+          ∙ rw (lt-ltb 128 (length (joinedRules (withNew (joining .joined) next) (drop (suc i) (rulesOf second)))) whole, lt-ltb 128 (length (withNew (joining .joined) next)) many) at (rw ahead at (joining .whole))

@@ -3,7 +3,7 @@
 use mathlib.Core.Path.{_≡_, refl, sym, ap, _∙_}
 use mathlib.Core.Bool.{Bool, true, false}
 use mathlib.Core.Logic.{_↔_, ⊎-elim}
-use mathlib.Core.List.{List, [], _∷_}
+use mathlib.Core.List.{List, []}
 use Prim.Native.Nat.{ℕ, zero, suc, _+_, _≤_, _<_}
 use native.Mathlib.Nat.{eq-or-lt-of-le, le-of-suc-le-suc}
 use native.Mathlib.Numerals.{add-one}
@@ -14,11 +14,10 @@ use lib.Dec.{eqb}
 use borrow.Author.Tests.{eqb-true, eq-eqb, ne-eqb}
 use Rattle.sets.proofs.Booleans.{clash}
 use Rattle.rules.specs.Acceptance.{unstated, rightAt, rightAccepted}
-use Rattle.rules.specs.Breach.{firstBroken, isKept}
+use Rattle.rules.specs.Breach.{isKept}
 use Rattle.rules.specs.declared.rights.Right.{Right}
 use Rattle.rules.specs.declared.rights.Right.the-variants.{Unstated, Permission}
 use Rattle.rules.specs.declared.rights.RightSlot.{RightSlot}
-use Rattle.rules.specs.declared.tests.Tested.{Tested}
 use Rattle.rules.specs.declared.tests.Tested.the-variants.{Kept, Broken}
 use Rattle.rules.specs.declared.lists.RuleList.{RuleList}
 use Rattle.rules.proofs.Breach.{first-none, kept-means, broken-means}

@@ -18,7 +18,7 @@ use Rattle.rules.specs.declared.lists.Slot.{Slot}
 use Rattle.rules.specs.declared.lists.RuleList.{RuleList}
 use Rattle.rule_text.specs.Reading.{noRights, listOf}
 use Rattle.rule_text.proofs.Slots.{list-length, slots-length}
-use Rattle.joining.specs.Joining.{joinedRules, joinedRights, refusedJoin, joinOf}
+use Rattle.joining.specs.Joining.{joinedRules, joinedRights, joinOf}
 use Rattle.joining.specs.Claims.{JoinRefused, first-refused, second-refused, rights-differ, too-many}
 use Rattle.joining.specs.declared.lists.Joined.{Joined}
 use Rattle.joining.specs.declared.lent.Admission.{Admission}

@@ -2,7 +2,7 @@
 -- joined list, renumbered." What follows of it is stated in Claims.antt.
 -- Assumes nothing.
 use mathlib.Core.Path.{_≡_}
-use mathlib.Core.Bool.{Bool, true, false, cond, not, _&&_}
+use mathlib.Core.Bool.{Bool, true, cond, not, _&&_}
 use mathlib.Core.List.{List, [], _∷_, _++_}
 use Prim.Native.Nat.{ℕ, suc}
 use lib.ListN.{length, getD}
@@ -23,7 +23,6 @@ use Rattle.rule_text.specs.declared.lines.Line.{Line}
 use Rattle.enforcement.specs.Plain.{obeys}
 use Rattle.enforcement.specs.declared.states.State.{State}
 use Rattle.joining.specs.declared.lists.Joined.{Joined}
-use Rattle.joining.specs.declared.lists.Added.{Added}
 
 -- ---- the rules
 
@@ -86,13 +85,6 @@ rightsTested first second = firstBroken 6 (λ kind. rightsAgree (rightAt first k
 unfoldable pub tooManyAt : ℕ → List Rule → List Rule → ℕ
 tooManyAt n joined [] = 0
 tooManyAt n joined (rule ∷ rules) = cond (ltb 128 (length (withNew joined rule))) n (tooManyAt (suc n) (withNew joined rule) rules)
-
--- one rule of the second, or no place for it
-unfoldable pub addedTo : List RightSlot → List Rule → Rule → Added
-addedTo rights joined rule =
-    cond (ltb 128 (length (withNew joined rule)))
-    (record { full = true; list = listOf rights joined })
-    (record { full = false; list = listOf rights (withNew joined rule) })
 
 -- "nothing written on any"
 abbrev pub refusedJoin : ℕ → ℕ → Joined

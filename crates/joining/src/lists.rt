@@ -1,14 +1,12 @@
 // Two rule lists joined: the rules of the first, then in turn each rule of the second that equals none already there.
 ghost use mathlib.Core.Path.{_≡_};
 ghost use mathlib.Core.Bool.{true};
-ghost use Prim.Native.Nat.{_≤_};
 ghost use Rattle.rules.specs.Acceptance.{rulesOf, listAccepted};
 ghost use Rattle.rule_text.specs.Reading.{listOf};
-ghost use Rattle.joining.specs.Joining.{joinedRights, addedTo, refusedJoin, rulesJoined, joinOf, ObeyedAsBoth};
+ghost use Rattle.joining.specs.Joining.{joinedRights, refusedJoin, rulesJoined, joinOf, ObeyedAsBoth};
 use crate::equality::equals_none;
 use crate::right_lines::rights_of_both;
 use crate::right_lines::test_rights;
-use rules::Rule;
 use rules::RuleList;
 use rules::Slot;
 use rules::Tested;
@@ -18,12 +16,6 @@ use rules::Tested;
 pub struct Joined {
     pub number: u64,
     pub place: usize,
-    pub list: RuleList,
-}
-
-// The list with a rule added, unless it is there already; or there is no place for it.
-pub struct Added {
-    pub full: bool,
     pub list: RuleList,
 }
 
@@ -66,12 +58,16 @@ fn join_rules(first: RuleList, second: RuleList) -> Joined
     while i < length {
         let slot = second.slots[i];
         let rule = slot.rule;
-        let added = add(list, rule);
         i += 1;
-        if added.full {
+        if !equals_none(rule, list) {
+            continue;
+        }
+        let at = list.length;
+        if at == RuleList::MOST {
             return refused(57, i);
         }
-        list = added.list;
+        list.slots[at] = Slot { rule };
+        list.length = at + 1;
     }
     Joined {
         number: 0,
@@ -98,24 +94,4 @@ fn with_both_rights(first: RuleList, second: RuleList) -> RuleList
         list.length = i;
     }
     list
-}
-
-fn add(list: RuleList, rule: Rule) -> Added
-    requires { ⌜ (list ≡ listOf (list .rights) (rulesOf list)) × (list .length ≤ 128) ⌝ }
-    ensures { λ r. ⌜ r ≡ addedTo (list .rights) (rulesOf list) rule ⌝ }
-{
-    if !equals_none(rule, list) {
-        return Added { full: false, list };
-    }
-    let at = list.length;
-    if at == RuleList::MOST {
-        return Added { full: true, list };
-    }
-    let mut added = list;
-    added.slots[at] = Slot { rule };
-    added.length = at + 1;
-    Added {
-        full: false,
-        list: added,
-    }
 }

@@ -1,24 +1,24 @@
 -- THEOREMS on two rule lists joined, as texts: each refusal has its own cause, 18 says what is needed, how long the text can be, and which texts
 -- come back byte for byte.
 -- Assumes nothing.
-use mathlib.Core.Path.{_≡_, refl, sym, ap, _∙_}
+use mathlib.Core.Path.{_≡_, refl, sym, ap, _∙_, subst}
 use mathlib.Core.Bool.{Bool, true, false, cond}
-use mathlib.Core.Logic.{_↔_, _⊎_, inl, inr, ⊎-elim}
+use mathlib.Core.Logic.{_↔_, _⊎_, ⊎-elim}
 use mathlib.Core.List.{List, []}
 use Prim.Native.Nat.{ℕ, suc, _+_, _≤_, _<_}
 use native.Mathlib.Omega.{arith}
-use lib.ListN.{length}
-use lib.Dec.{eqb, leb}
+use lib.ListN.{length, getD-replicate}
+use lib.Dec.{leb}
 use borrow.Author.Tests.{eq-eqb, ne-eqb, le-leb}
 use Rattle.sets.proofs.Booleans.{clash}
-use Rattle.rules.specs.Acceptance.{rulesOf}
+use Rattle.rules.specs.Acceptance.{unstated, every, rulesOf}
 use Rattle.rules.specs.declared.rights.RightSlot.{RightSlot}
-use Rattle.rules.specs.declared.lists.RuleList.{RuleList}
+use Rattle.rule_text.specs.Lines.{rightText, rightsText, listText}
 use Rattle.rule_text.specs.Reading.{readLines, noRights, listOf, readRules}
 use Rattle.rule_text.specs.Writing.{textOf}
 use Rattle.rule_text.specs.Causes.{FirstBad}
 use Rattle.rule_text.specs.declared.reading.LoadedRules.{LoadedRules}
-use Rattle.rule_text.proofs.Slots.{list-rights, rules-of-list, list-few}
+use Rattle.rule_text.proofs.Slots.{list-rights, rules-of-list, list-accepted, list-few, none-good}
 use Rattle.rule_text.proofs.Loaded.{zero-or-some, loaded-list}
 use Rattle.rule_text.proofs.Lists.{cause-number}
 use Rattle.rule_text.proofs.Back as ruleText
@@ -190,6 +190,18 @@ module _ (first second text : List ℕ) (none : readRules first .number ≡ 0) (
       ∙ ap (λ (t : List ℕ). outputReport t room) same-text
       ∙ rw (le-leb (length text) room fits)
 
+-- the empty text is the empty list
+empty-list : readRules [] ≡ record { number = 0; line = 0; list = listOf noRights [] }
+unfolding listOf noRights rightsText rightText listText every
+empty-list = ruleText.read-back (listOf noRights []) refl (list-accepted noRights [] none-good)
+
+empty-none : readRules [] .number ≡ 0
+empty-none = ap (λ (l : LoadedRules). l .number) empty-list
+
+empty-rules : Empty (rulesIn [])
+unfolding listOf noRights
+empty-rules = subst (λ (l : LoadedRules). Empty (l .list)) (sym empty-list) (refl, λ kind below. ap (λ (slot : RightSlot). slot .right) (getD-replicate 6 kind unstated unstated below))
+
 module _ (text : List ℕ) (accepted : readRules text .number ≡ 0) (room : ℕ) (fits : length text ≤ room) where
   -- THEOREM: a text joined with itself is itself, byte for byte
   pub text-with-itself : (joinReport (readRules text) (readRules text) room ≡ writtenReport (length text) 0) × (textOf (joinedWith (rulesIn text) (readRules text) .list) ≡ text)
@@ -197,16 +209,14 @@ module _ (text : List ℕ) (accepted : readRules text .number ≡ 0) (room : ℕ
       let same = itself (rulesIn text) (read-whole text) in
       (same-report text text text accepted accepted accepted same room fits, same-text text text text accepted accepted accepted same)
 
-  -- a text of no lines
-  module _ (empty : List ℕ) (empty-none : readRules empty .number ≡ 0) (none : Empty (rulesIn empty)) where
-    -- THEOREM: joined with the empty list it is itself
-    pub text-with-empty : (joinReport (readRules text) (readRules empty) room ≡ writtenReport (length text) 0) × (textOf (joinedWith (rulesIn text) (readRules empty) .list) ≡ text)
-    text-with-empty =
-        let same = after-empty (rulesIn text) (read-whole text) (rulesIn empty) (read-whole empty .2) none in
-        (same-report text empty text accepted empty-none accepted same room fits, same-text text empty text accepted empty-none accepted same)
+  -- THEOREM: joined with the empty text it is itself
+  pub text-with-empty : (joinReport (readRules text) (readRules []) room ≡ writtenReport (length text) 0) × (textOf (joinedWith (rulesIn text) (readRules []) .list) ≡ text)
+  text-with-empty =
+      let same = after-empty (rulesIn text) (read-whole text) (rulesIn []) (read-whole [] .2) empty-rules in
+      (same-report text [] text accepted empty-none accepted same room fits, same-text text [] text accepted empty-none accepted same)
 
-    -- THEOREM: and the empty list with it, where it has no doubles
-    pub empty-with-text : NoDoubles (rulesOf (rulesIn text)) → (joinReport (readRules empty) (readRules text) room ≡ writtenReport (length text) 0) × (textOf (joinedWith (rulesIn empty) (readRules text) .list) ≡ text)
-    empty-with-text single =
-        let same = before-empty (rulesIn text) (read-whole text) (rulesIn empty) (read-whole empty .2) none single in
-        (same-report empty text text empty-none accepted accepted same room fits, same-text empty text text empty-none accepted accepted same)
+  -- THEOREM: and the empty text with it, where it has no doubles
+  pub empty-with-text : NoDoubles (rulesOf (rulesIn text)) → (joinReport (readRules []) (readRules text) room ≡ writtenReport (length text) 0) × (textOf (joinedWith (rulesIn []) (readRules text) .list) ≡ text)
+  empty-with-text single =
+      let same = before-empty (rulesIn text) (read-whole text) (rulesIn []) (read-whole [] .2) empty-rules single in
+      (same-report [] text text empty-none accepted accepted same room fits, same-text [] text text empty-none accepted accepted same)

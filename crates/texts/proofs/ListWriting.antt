@@ -14,7 +14,6 @@ use Rattle.rule_text.specs.Writing.{textOf, rulesLength, writtenRules, lentAfte
 use Rattle.rule_text.specs.declared.reading.LoadedRules.{LoadedRules}
 use Rattle.rule_text.proofs.Loaded.{zero-or-some}
 use Rattle.rule_text.proofs.Room.{refused-40, refused-18, refused-number, refused-leaves, written-length}
-use Rattle.forms.specs.declared.writing.Written.{Written}
 use Rattle.forms.specs.declared.writing.Written.the-variants.{Length, Refused}
 use Rattle.forms.proofs.Room.{lent-written}
 use Rattle.policy_text.specs.Writing.{policiesText, writtenPolicies, lentAfterPolicies}

@@ -1,6 +1,5 @@
 -- `joining::lent::admit` meets its contract.
 -- Assumes nothing.
-use native.Mathlib.Omega.{arith}
 use Rattle.joining.proofs.Slots.{admit-short, admit-joined}
 use borrow.Author.Needs.{needs}
 use Rattle.joining.proofs.lent.admit.Statement.{statement}
