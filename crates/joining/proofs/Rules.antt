@@ -165,6 +165,41 @@ module _ (joined : List Rule) (rule : Rule) where
 
 -- ---- all rules of the second
 
+-- from place m on each rule equals none before it
+abbrev Once : ℕ → List Rule → Type 0
+Once m joined = (i j : ℕ) → i < j → m ≤ j → j < length joined → equalRules (ruleAt joined i) (ruleAt joined j) ≡ false
+
+once-new : (m : ℕ) (joined : List Rule) (rule : Rule) → Once m joined → Once m (withNew joined rule)
+once-new m joined rule once = ⊎-elim new equal (new-or-equal joined rule)
+  where
+    new : equalsNone rule joined ≡ true → Once m (withNew joined rule)
+    new e i j before from below =
+        ap (λ (l : List Rule). equalRules (ruleAt l i) (ruleAt l j)) (new-taken joined rule e)
+        ∙ ap (λ (other : Rule). equalRules other (ruleAt (joined ++ rule ∷ []) j)) (List·getD-append joined (rule ∷ []) _ i (omega (arith, sized)))
+        ∙ ⊎-elim earlier last (split j (length joined) (omega (arith, sized)))
+      where
+        sized : length (withNew joined rule) ≡ length joined + 1
+        sized = ap length (new-taken joined rule e) ∙ length-append joined (rule ∷ [])
+
+        split : (a b : ℕ) → a < b + 1 → (a < b) ⊎ (a ≡ b)
+        split a zero h = inr (omega arith)
+        split zero (suc b) h = inl (omega arith)
+        split (suc a) (suc b) h = ⊎-elim (λ less. inl (omega (arith, less))) (λ same. inr (ap suc same)) (split a b (omega arith))
+
+        earlier : j < length joined → equalRules (ruleAt joined i) (ruleAt (joined ++ rule ∷ []) j) ≡ false
+        earlier less = ap (equalRules (ruleAt joined i)) (List·getD-append joined (rule ∷ []) _ j less) ∙ once i j before from less
+
+        last : j ≡ length joined → equalRules (ruleAt joined i) (ruleAt (joined ++ rule ∷ []) j) ≡ false
+        last same = ap (equalRules (ruleAt joined i)) (getD-at joined rule [] _ j (sym same)) ∙ new-differs joined rule e i (omega (arith, same, before))
+
+    equal : equalsNone rule joined ≡ false → Once m (withNew joined rule)
+    equal e = rw (equal-left joined rule e) once
+
+once-joined : (m : ℕ) (joined rules : List Rule) → Once m joined → Once m (joinedRules joined rules)
+unfolding joinedRules
+once-joined m joined [] once = once
+once-joined m joined (rule ∷ rules) once = once-joined m (withNew joined rule) rules (once-new m joined rule once)
+
 -- THEOREM: a test passes at every joined rule just where it passes at every rule of the first and at every rule of the second
 pub every-joined : (p : Rule → Bool) (joined rules : List Rule) → every ruleAccepted joined ≡ true → every ruleAccepted rules ≡ true → every p (joinedRules joined rules) ≡ (every p joined && every p rules)
 unfolding joinedRules every
@@ -233,41 +268,6 @@ keeps-place : (joined rules : List Rule) (i : ℕ) → i < length joined → rul
 keeps-place joined rules i below =
     let from = from-both joined rules in
     ap (λ (l : List Rule). ruleAt l i) (from .front) ∙ List·getD-append joined (from .past) _ i below
-
--- from place m on each rule equals none before it
-abbrev Once : ℕ → List Rule → Type 0
-Once m joined = (i j : ℕ) → i < j → m ≤ j → j < length joined → equalRules (ruleAt joined i) (ruleAt joined j) ≡ false
-
-once-new : (m : ℕ) (joined : List Rule) (rule : Rule) → Once m joined → Once m (withNew joined rule)
-once-new m joined rule once = ⊎-elim new equal (new-or-equal joined rule)
-  where
-    new : equalsNone rule joined ≡ true → Once m (withNew joined rule)
-    new e i j before from below =
-        ap (λ (l : List Rule). equalRules (ruleAt l i) (ruleAt l j)) (new-taken joined rule e)
-        ∙ ap (λ (other : Rule). equalRules other (ruleAt (joined ++ rule ∷ []) j)) (List·getD-append joined (rule ∷ []) _ i (omega (arith, sized)))
-        ∙ ⊎-elim earlier last (split j (length joined) (omega (arith, sized)))
-      where
-        sized : length (withNew joined rule) ≡ length joined + 1
-        sized = ap length (new-taken joined rule e) ∙ length-append joined (rule ∷ [])
-
-        split : (a b : ℕ) → a < b + 1 → (a < b) ⊎ (a ≡ b)
-        split a zero h = inr (omega arith)
-        split zero (suc b) h = inl (omega arith)
-        split (suc a) (suc b) h = ⊎-elim (λ less. inl (omega (arith, less))) (λ same. inr (ap suc same)) (split a b (omega arith))
-
-        earlier : j < length joined → equalRules (ruleAt joined i) (ruleAt (joined ++ rule ∷ []) j) ≡ false
-        earlier less = ap (equalRules (ruleAt joined i)) (List·getD-append joined (rule ∷ []) _ j less) ∙ once i j before from less
-
-        last : j ≡ length joined → equalRules (ruleAt joined i) (ruleAt (joined ++ rule ∷ []) j) ≡ false
-        last same = ap (equalRules (ruleAt joined i)) (getD-at joined rule [] _ j (sym same)) ∙ new-differs joined rule e i (omega (arith, same, before))
-
-    equal : equalsNone rule joined ≡ false → Once m (withNew joined rule)
-    equal e = rw (equal-left joined rule e) once
-
-once-joined : (m : ℕ) (joined rules : List Rule) → Once m joined → Once m (joinedRules joined rules)
-unfolding joinedRules
-once-joined m joined [] once = once
-once-joined m joined (rule ∷ rules) once = once-joined m (withNew joined rule) rules (once-new m joined rule once)
 
 all-there : (joined rules : List Rule) (j : ℕ) → j < length rules → (i : ℕ) × (i < length (joinedRules joined rules)) × (equalRules (ruleAt (joinedRules joined rules) i) (ruleAt rules j) ≡ true)
 unfolding joinedRules
