@@ -56,14 +56,14 @@ Differ first second = (p q : ℕ) × (first ≡ Permission p) × (second ≡ Per
 
 -- the cause of each number, with its place
 pub data JoinRefused (first second : RuleList) : ℕ → ℕ → Type 0 where
-  -- "40 (of either list)"
+  -- 40 of either list comes first
   first-refused : listAccepted first ≡ false → JoinRefused first second 40 0
   second-refused : listAccepted first ≡ true → listAccepted second ≡ false → JoinRefused first second 40 0
   -- "58 two right lines of one kind with different permissions": the first such kind
   rights-differ : (kind : ℕ) → listAccepted first ≡ true → listAccepted second ≡ true → kind < 6 → Differ (rightAt (first .rights) kind) (rightAt (second .rights) kind)
       → ((earlier : ℕ) → earlier < kind → Differ (rightAt (first .rights) earlier) (rightAt (second .rights) earlier) → ⊥)
       → JoinRefused first second 58 kind
-  -- "57 more than 128 rules": with rule n of the second they are more, before it they are not
+  -- "57 more than 128 rules": with rule n + 1 of the second they are more, before it they are not
   too-many : (n : ℕ) → listAccepted first ≡ true → listAccepted second ≡ true
       → ((kind : ℕ) → kind < 6 → Differ (rightAt (first .rights) kind) (rightAt (second .rights) kind) → ⊥)
       → n < length (rulesOf second) → length (joinedRules (rulesOf first) (take n (rulesOf second))) ≤ 128

@@ -36,15 +36,14 @@ withLine rights joined = record { number = joined .number; line = lineIn rights 
 unfoldable pub joinedWith : RuleList → LoadedRules → LoadedRules
 joinedWith first read = cond (eqb (read .number) 0) (withLine (read .list .rights) (joinOf first (read .list))) read
 
--- what was read of both: the text of the joined list, or "which of the two is bad, its number and line"
+-- what was read of both: the text of the joined list, or which of the two is refused, with its number and line
 unfoldable pub joinReport : LoadedRules → LoadedRules → ℕ → Report
 joinReport first second room =
     cond (eqb (first .number) 0) (listReport Text.SecondRules (joinedWith (first .list) second) room) (refusedReport Text.Rules (first .number) (first .line))
 
 -- ---- the causes, in plain words
 
--- "which of the two is bad, its number and line": a first bad line of either, the first before the second; or the lists are good, and joining them
--- is refused at a right or at a rule of the second
+-- a first bad line of either, the first before the second; or the lists are good, and joining them is refused at a right or at a rule of the second
 pub data JoinBad (first second : List ℕ) : Text → ℕ → ℕ → Type 0 where
   first-bad : (number line : ℕ) → FirstBad first number line → JoinBad first second Text.Rules number line
   second-bad : (number line : ℕ) → readRules first .number ≡ 0 → FirstBad second number line → JoinBad first second Text.SecondRules number line
