@@ -44,7 +44,7 @@ abbrev isBroken : Lowest → Bool
 isBroken Unbroken = false
 isBroken (BrokenAt n) = true
 
-lowest-after : (test : Rule → Bool) (n : ℕ) (rules others : List Rule) → every test rules ≡ true → lowest test n (rules ++ others) ≡ lowest test (n + length rules) others
+pub lowest-after : (test : Rule → Bool) (n : ℕ) (rules others : List Rule) → every test rules ≡ true → lowest test n (rules ++ others) ≡ lowest test (n + length rules) others
 unfolding lowest every
 lowest-after test n [] others h = ap (λ (m : ℕ). lowest test m others) (omega arith)
 lowest-after test n (rule ∷ rules) others h =

@@ -17,3 +17,4 @@ pub mod PolicySizes
 pub mod Journeys
 pub mod JoinedTexts
 pub mod Joins
+pub mod JoinedStates
