@@ -1,0 +1,51 @@
+use borrow.Author.Rules.{rules}
+use Rattle.rules.specs.Acceptance.{rule_distinct}
+use Rattle.rules.proofs.families.Rule.is_distinct.Goals as goal
+
+pub returns-in-Prerequisite : goal.returns-in-Prerequisite
+unfolding rule_distinct
+returns-in-Prerequisite c = rw c.in-Prerequisite.is
+
+pub returns-in-MaxUsers : goal.returns-in-MaxUsers
+unfolding rule_distinct
+returns-in-MaxUsers c = rw c.in-MaxUsers.is
+
+pub returns-in-MaxRoles : goal.returns-in-MaxRoles
+unfolding rule_distinct
+returns-in-MaxRoles c = rw c.in-MaxRoles.is
+
+pub returns-in-MaxPermissions : goal.returns-in-MaxPermissions
+unfolding rule_distinct
+returns-in-MaxPermissions c = rw c.in-MaxPermissions.is
+
+pub returns-in-MaxActive : goal.returns-in-MaxActive
+unfolding rule_distinct
+returns-in-MaxActive c = rw c.in-MaxActive.is
+
+pub returns-in-StaticSeparation : goal.returns-in-StaticSeparation
+unfolding rule_distinct
+returns-in-StaticSeparation c = rw c.in-StaticSeparation.is
+
+pub returns-in-DynamicSeparation : goal.returns-in-DynamicSeparation
+unfolding rule_distinct
+returns-in-DynamicSeparation c = rw c.in-DynamicSeparation.is
+
+pub returns-in-Dependency : goal.returns-in-Dependency
+unfolding rule_distinct
+returns-in-Dependency c = rw c.in-Dependency.is
+
+pub returns-in-TimeContext : goal.returns-in-TimeContext
+unfolding rule_distinct
+returns-in-TimeContext c = rw c.in-TimeContext.is
+
+pub returns-in-LocationContext : goal.returns-in-LocationContext
+unfolding rule_distinct
+returns-in-LocationContext c = rw c.in-LocationContext.is
+
+pub returns-in-HistorySeparation : goal.returns-in-HistorySeparation
+unfolding rule_distinct
+returns-in-HistorySeparation c = rw c.in-HistorySeparation.is
+
+pub returns-in-BindingOfDuty : goal.returns-in-BindingOfDuty
+unfolding rule_distinct
+returns-in-BindingOfDuty c = rw c.in-BindingOfDuty.is

@@ -1,0 +1,18 @@
+use lib.Dec.{eqb}
+use borrow.Author.Tests.{not-true, not-false}
+use Rattle.rules.proofs.Steps.{separated}
+use borrow.Author.Rules.{rules}
+use mathlib.Core.Path.{◌≡◌, refl, sym, ap, ◌∙◌}
+use Prim.Native.Nat.{ℕ, ◌≤◌, ◌-◌}
+use native.Mathlib.Omega.{arith}
+use Rattle.rules.specs.Breach.{first_broken}
+use Rattle.rules.specs.Families.{history_separation_at}
+use Rattle.rules.proofs.Breach.{first_more, first_found}
+use Rattle.rules.specs.declared.tests.Tested.TheVariants.{Kept}
+use Rattle.rules.proofs.tests.history_separation.Given as goal
+
+abbrev pub invariant-objects : goal.invariant-objects
+invariant-objects l = (l.object ≤ 32) × (first_broken l.object (history_separation_at l.history l.first l.second) ≡ Kept)
+
+abbrev pub decreases-objects : goal.decreases-objects
+decreases-objects l = 32 - l.object

@@ -1,0 +1,16 @@
+use borrow.Author.Rules.{rules}
+use mathlib.Core.Path.{◌≡◌, refl, sym}
+use Prim.Native.Nat.{◌≤◌, ◌-◌}
+use native.Mathlib.Omega.{arith}
+use Rattle.rules.specs.Breach.{first_broken}
+use Rattle.rules.specs.Families.{max_active_at}
+use Rattle.rules.proofs.Breach.{first_more, first_found}
+use Rattle.rules.specs.declared.tests.Tested.TheVariants.{Kept}
+use borrow.Author.Tests.{le-leb, lt-leb}
+use Rattle.rules.proofs.tests.max_active.Given as goal
+
+abbrev pub invariant-sessions : goal.invariant-sessions
+invariant-sessions l = (l.session ≤ 32) × (first_broken l.session (max_active_at l.active l.limit) ≡ Kept)
+
+abbrev pub decreases-sessions : goal.decreases-sessions
+decreases-sessions l = 32 - l.session
