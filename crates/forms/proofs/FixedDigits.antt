@@ -1,16 +1,14 @@
 -- A number of just so many digits: what is written is read, and what is read was written. Assumes nothing.
 use mathlib.Core.Path.{◌≡◌, refl, sym, ap, ◌∙◌}
-use mathlib.Core.Bool.{Bool, true, false, cond, ◌&&◌}
+use mathlib.Core.Bool.{Bool, true, false, cond}
 use mathlib.Core.List.{List, [], ◌∷◌, ◌++◌, append_assoc}
 use Prim.Native.Nat.{ℕ, zero, suc, ◌+◌, ◌-◌, ◌*◌, ◌/◌, ◌%◌, ◌^◌, ◌≤◌, ◌<◌}
-use native.Mathlib.Nat.{zero-add, add-zero, add-suc, suc-add, pow-suc}
+use native.Mathlib.Nat.{zero-add, add-zero, pow-suc}
 use native.Mathlib.Omega.{arith}
 use lib.ListN.{length, drop, length-append}
-use lib.Dec.{leb}
 use borrow.Author.Tests.{le-leb}
 use Rattle.sets.proofs.Booleans.{both, clash}
 use Rattle.forms.specs.Numbers.{fixed_of, starts_with_digits, value_from, read_fixed, value_and_length, nothing, is_digit}
-use Rattle.forms.specs.declared.numbers.Number.{Number}
 use Rattle.forms.proofs.Digits.{digit-true}
 
 pub fixed-length : (n v : ℕ) → length (fixed_of n v) ≡ n

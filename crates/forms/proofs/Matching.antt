@@ -2,16 +2,16 @@
 use mathlib.Core.Path.{◌≡◌, refl, sym, ap, ◌∙◌}
 use mathlib.Core.Bool.{Bool, true, false, cond, ◌&&◌, not}
 use mathlib.Core.List.{List, [], ◌∷◌, ◌++◌, append_assoc}
-use Prim.Native.Nat.{ℕ, zero, suc, ◌+◌, ◌-◌, ◌*◌, ◌≤◌, ◌<◌}
+use Prim.Native.Nat.{ℕ, suc, ◌≤◌, ◌<◌}
 use native.Mathlib.Omega.{arith}
 use lib.ListN.{length, drop, length-append, length-drop}
 use lib.Seq.{drop-drop, drop-append_seam}
-use lib.Dec.{ltb, leb, eqb}
+use lib.Dec.{ltb, eqb}
 use borrow.Author.Tests.{lt-ltb, ne_eqb, ltb-true, eqb-true, eqb-false}
 use Rattle.sets.proofs.Booleans.{both, clash}
-use Rattle.forms.specs.Numbers.{read_byte, is_digit, value_and_length, nothing}
+use Rattle.forms.specs.Numbers.{read_byte, is_digit}
 use Rattle.forms.specs.Kinds.{syntax_of, is_slot_syntax, is_slot}
-use Rattle.forms.specs.Forms.{item_text, read_item, text_by, read_by, fits_by, head, tail, left, fill, Match, unmatched, matched, prepend, scan, values_fit, values_in}
+use Rattle.forms.specs.Forms.{item_text, read_item, text_by, read_by, fits_by, head, left, fill, Match, unmatched, matched, prepend, scan, values_fit, values_in}
 use Rattle.forms.specs.Tables.{slot_count, goes_on_plain, parted, apart}
 use Rattle.forms.specs.declared.kinds.Syntax.{Syntax}
 use Rattle.forms.specs.declared.kinds.Syntax.TheVariants as syntax

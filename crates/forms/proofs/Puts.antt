@@ -1,8 +1,8 @@
 -- Laws of writing. Assumes nothing.
 use mathlib.Core.Path.{◌≡◌, refl, sym, ap, ◌∙◌, subst, subst⁻¹}
-use mathlib.Core.Bool.{Bool, true, false, cond, ◌&&◌}
+use mathlib.Core.Bool.{Bool, true, false, cond}
 use mathlib.Core.List.{List, [], ◌∷◌, ◌++◌}
-use Prim.Native.Nat.{ℕ, zero, suc, ◌+◌, ◌-◌, ◌*◌, ◌/◌, ◌%◌, ◌^◌, ◌≤◌, ◌<◌}
+use Prim.Native.Nat.{ℕ, zero, suc, ◌+◌, ◌-◌, ◌*◌, ◌/◌, ◌^◌, ◌≤◌, ◌<◌}
 use native.Mathlib.Nat.{add-zero, zero-add, pow-suc}
 use native.Mathlib.Omega.{arith}
 use lib.ListN.{length, drop, set, length-append, length-set}
@@ -10,11 +10,10 @@ use lib.Seq.{sets, length-sets, sets-eq, set_out}
 use lib.Dec.{ltb, leb}
 use borrow.Author.Tests.{le-leb, lt-leb, leb-true, leb-false, ltb-true, ltb-false}
 use Rattle.sets.proofs.Booleans.{both}
-use Rattle.forms.specs.Numbers.{digits_of, signed_of, fixed_of}
+use Rattle.forms.specs.Numbers.{digits_of, signed_of}
 use Rattle.forms.specs.Kinds.{syntax_of, is_slot}
 use Rattle.forms.specs.Forms.{text_by, item_text, fits_by, head, left, fill, values_fit}
 use Rattle.forms.specs.Writing.{last_place, capped, Wrote, written_of, lent_after}
-use Rattle.forms.specs.declared.writing.Written.{Written}
 use Rattle.forms.specs.declared.writing.Written.TheVariants.{Length, Refused}
 use Rattle.forms.specs.declared.kinds.Syntax.{Syntax}
 use Rattle.forms.specs.declared.kinds.Syntax.TheVariants as syntax

@@ -1,14 +1,14 @@
 -- What each syntax reads at the front of a text: how long it is, that it stands there, and that it fits. Assumes nothing.
-use mathlib.Core.Path.{◌≡◌, refl, sym, ap, ◌∙◌, subst⁻¹}
+use mathlib.Core.Path.{◌≡◌, refl, ap, subst⁻¹}
 use mathlib.Core.Bool.{Bool, true, false, cond, ◌&&◌, not}
-use mathlib.Core.List.{List, [], ◌∷◌, ◌++◌, append_assoc}
+use mathlib.Core.List.{List, [], ◌∷◌, ◌++◌}
 use Prim.Native.Nat.{ℕ, zero, suc, ◌+◌, ◌-◌, ◌*◌, ◌/◌, ◌%◌, ◌≤◌, ◌<◌}
 use native.Mathlib.Omega.{arith}
-use lib.ListN.{length, drop, get_or, length-append, get_or-append}
-use lib.Dec.{ltb, leb, eqb}
+use lib.ListN.{length, drop, get_or, get_or-append}
+use lib.Dec.{ltb, eqb}
 use borrow.Author.Tests.{lt-ltb, le-ltb, eq-eqb, ne_eqb, ltb-true, ltb-false, eqb-true, eqb-false, not-true}
 use Rattle.sets.proofs.Booleans.{both, clash}
-use Rattle.forms.specs.Numbers.{digits_of, signed_of, fixed_of, digits_from, read_number, read_positive, read_signed, read_byte, read_fixed, negated, value_and_length, nothing, longer, is_digit}
+use Rattle.forms.specs.Numbers.{digits_of, signed_of, fixed_of, digits_from, read_number, read_positive, read_signed, read_byte, read_fixed, value_and_length, nothing, longer, is_digit}
 use Rattle.forms.specs.Kinds.{is_slot_syntax, syntax_of}
 use Rattle.forms.specs.Forms.{text_by, read_by, read_item, fits_by}
 use Rattle.forms.specs.declared.kinds.Syntax.{Syntax}

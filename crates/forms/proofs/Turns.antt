@@ -1,16 +1,15 @@
 -- What a turn of each loop keeps. Assumes nothing.
 use mathlib.Core.Path.{◌≡◌, refl, sym, ap, ◌∙◌, subst}
-use mathlib.Core.Bool.{Bool, true, false, cond, ◌&&◌, not}
+use mathlib.Core.Bool.{Bool, true, false, cond, ◌&&◌}
 use mathlib.Core.List.{List, [], ◌∷◌, ◌++◌}
 use Prim.Native.Nat.{ℕ, zero, suc, ◌+◌, ◌-◌, ◌*◌, ◌^◌, ◌≤◌, ◌<◌}
 use native.Mathlib.Numerals.{add-one}
-use native.Mathlib.Nat.{add-zero, add_assoc, zero-add, pow-suc}
+use native.Mathlib.Nat.{add-zero, add_assoc, pow-suc}
 use native.Mathlib.Omega.{arith}
 use lib.ListN.{length, take, drop, get_or, set, replicate, length-set, length-drop, drop_of_length-le}
-use lib.Seq.{drop-cons, drop-drop, sets, take_all, take-append_seam}
-use lib.Dec.{ltb, leb, eqb}
-use borrow.Author.Tests.{lt-ltb, le-ltb, le-leb, eq-eqb, ne_eqb, ltb-true, ltb-false}
-use Rattle.sets.proofs.Booleans.{both, clash}
+use lib.Seq.{drop-cons, drop-drop, take_all}
+use lib.Dec.{ltb, eqb}
+use borrow.Author.Tests.{lt-ltb, le-ltb, eq-eqb, ne_eqb}
 use Rattle.forms.specs.Numbers.{read_number, read_positive, read_signed, read_fixed, read_byte, negated, digits_from, starts_with_digits, value_from, value_and_length, nothing, longer, is_digit}
 use Rattle.forms.specs.Kinds.{is_slot, in_range}
 use Rattle.forms.specs.Forms.{item_text, read_item, head, tail, left, fill, all_in_range, Match, unmatched, matched, prepend, scan, scanned, into, scanned_as, not_found, taken_by, advance}

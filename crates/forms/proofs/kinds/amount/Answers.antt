@@ -1,4 +1,3 @@
-use borrow.Author.Rules.{rules}
 use borrow.Author.Tests.{lt-ltb, le-ltb}
 use Rattle.forms.specs.Kinds.{amount_of}
 use Rattle.forms.proofs.kinds.amount.Goals as goal

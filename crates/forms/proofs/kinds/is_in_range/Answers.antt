@@ -1,11 +1,9 @@
-use mathlib.Core.Path.{◌≡◌, ap, ◌∙◌}
-use mathlib.Core.Bool.{Bool}
+use mathlib.Core.Path.{ap, ◌∙◌}
 use Prim.Native.Nat.{ℕ}
 use lib.Dec.{leb}
 use Rattle.forms.specs.Kinds.{in_range_by}
 use Rattle.forms.specs.declared.kinds.Syntax.TheVariants as syntax
 use Rattle.forms.proofs.Marks.{kind-range}
-use borrow.Author.Rules.{rules}
 use Rattle.forms.proofs.kinds.is_in_range.Goals as goal
 
 pub returns-in-Literal : goal.returns-in-Literal

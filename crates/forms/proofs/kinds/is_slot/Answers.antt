@@ -1,7 +1,6 @@
-use mathlib.Core.Path.{◌≡◌, ◌∙◌}
+use mathlib.Core.Path.{◌∙◌}
 use native.Mathlib.Omega.{arith}
 use Rattle.forms.proofs.Marks.{mark-high, mark-low, mark-between}
-use borrow.Author.Rules.{rules}
 use Rattle.forms.proofs.kinds.is_slot.Goals as goal
 
 pub returns-then-mark-ge97 : goal.returns-then-mark-ge97

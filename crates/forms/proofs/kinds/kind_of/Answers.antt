@@ -1,4 +1,3 @@
-use borrow.Author.Rules.{rules}
 use borrow.Author.Tests.{ne_eqb}
 use Rattle.forms.specs.Kinds.{kind_of, lookup}
 use Rattle.forms.proofs.kinds.kind_of.Goals as goal

@@ -1,7 +1,6 @@
-use mathlib.Core.Path.{◌≡◌, sym, ◌∙◌}
+use mathlib.Core.Path.{sym, ◌∙◌}
 use native.Mathlib.Omega.{arith}
 use Rattle.forms.proofs.Turns.{byte-none, byte-same, byte-other}
-use borrow.Author.Rules.{rules}
 use Rattle.forms.proofs.numbers.read_byte.Goals as goal
 
 pub returns-then-text-eq0 : goal.returns-then-text-eq0

@@ -1,11 +1,8 @@
-use mathlib.Core.Path.{◌≡◌, sym, ap, ◌∙◌, subst⁻¹}
-use Prim.Native.Nat.{ℕ, ◌-◌, ◌*◌, ◌+◌, ◌≤◌}
+use mathlib.Core.Path.{sym, ◌∙◌}
 use native.Mathlib.Omega.{arith}
-use lib.ListN.{length}
-use borrow.Author.Rules.{rules}
 use borrow.Author.Tests.{not-true, not-false}
 use Rattle.forms.proofs.Digits.{digit-below}
-use Rattle.forms.proofs.Turns.{Fixed, fixed-start, fixed-short, fixed-other, fixed-turn, fixed-end, power_small}
+use Rattle.forms.proofs.Turns.{fixed-start, fixed-short, fixed-other, fixed-turn, fixed-end, power_small}
 use Rattle.forms.proofs.numbers.read_fixed.Goals as goal
 
 pub loop-i-init : goal.loop-i-init

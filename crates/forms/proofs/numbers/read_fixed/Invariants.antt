@@ -1,11 +1,5 @@
-use mathlib.Core.Path.{◌≡◌, sym, ap, ◌∙◌, subst⁻¹}
-use Prim.Native.Nat.{ℕ, ◌-◌, ◌*◌, ◌+◌, ◌≤◌}
-use native.Mathlib.Omega.{arith}
-use lib.ListN.{length}
-use borrow.Author.Rules.{rules}
-use borrow.Author.Tests.{not-true, not-false}
-use Rattle.forms.proofs.Digits.{digit-below}
-use Rattle.forms.proofs.Turns.{Fixed, fixed-start, fixed-short, fixed-other, fixed-turn, fixed-end, power_small}
+use Prim.Native.Nat.{◌-◌, ◌≤◌}
+use Rattle.forms.proofs.Turns.{Fixed}
 use Rattle.forms.proofs.numbers.read_fixed.Given as goal
 
 abbrev pub invariant-loop-i : goal.invariant-loop-i

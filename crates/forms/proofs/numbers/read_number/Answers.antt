@@ -1,12 +1,7 @@
-use mathlib.Core.Path.{◌≡◌, sym, ◌∙◌}
-use mathlib.Core.Bool.{◌&&◌}
-use Prim.Native.Nat.{◌≤◌, ◌<◌, ◌-◌}
+use mathlib.Core.Path.{sym, ◌∙◌}
 use native.Mathlib.Omega.{arith}
-use lib.ListN.{length, get_or, drop}
 use borrow.Author.Tests.{not-true, not-false}
 use Rattle.forms.proofs.Digits.{digit-below, goes_on}
-use borrow.Author.Rules.{rules}
-use Rattle.forms.specs.Numbers.{read_number, digits_from, longer}
 use Rattle.forms.proofs.Turns.{ended, turned, stopped, first-none, first-zero, first-other, first-digit}
 use Rattle.forms.proofs.numbers.read_number.Goals as goal
 

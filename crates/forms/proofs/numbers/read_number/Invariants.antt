@@ -1,13 +1,7 @@
-use mathlib.Core.Path.{◌≡◌, sym, ◌∙◌}
-use mathlib.Core.Bool.{◌&&◌}
+use mathlib.Core.Path.{◌≡◌}
 use Prim.Native.Nat.{◌≤◌, ◌<◌, ◌-◌}
-use native.Mathlib.Omega.{arith}
-use lib.ListN.{length, get_or, drop}
-use borrow.Author.Tests.{not-true, not-false}
-use Rattle.forms.proofs.Digits.{digit-below, goes_on}
-use borrow.Author.Rules.{rules}
+use lib.ListN.{length, drop}
 use Rattle.forms.specs.Numbers.{read_number, digits_from, longer}
-use Rattle.forms.proofs.Turns.{ended, turned, stopped, first-none, first-zero, first-other, first-digit}
 use Rattle.forms.proofs.numbers.read_number.Given as goal
 
 abbrev pub invariant-loop-i : goal.invariant-loop-i

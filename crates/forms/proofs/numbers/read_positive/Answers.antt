@@ -1,6 +1,5 @@
-use mathlib.Core.Path.{◌≡◌, sym, ◌∙◌}
+use mathlib.Core.Path.{sym, ◌∙◌}
 use Rattle.forms.proofs.Turns.{positive-some, positive-none}
-use borrow.Author.Rules.{rules}
 use Rattle.forms.proofs.numbers.read_positive.Goals as goal
 
 pub returns-then-number-gt0 : goal.returns-then-number-gt0

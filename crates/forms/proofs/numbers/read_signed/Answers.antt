@@ -7,7 +7,6 @@ use Rattle.forms.specs.Numbers.{read_number, negated}
 use Rattle.forms.specs.declared.numbers.Number.{Number}
 use Rattle.forms.proofs.Reading.{number_small, number_short, signed-plain}
 use Rattle.forms.proofs.Turns.{rest, signed-none, signed-minus, negated-some, negated-none}
-use borrow.Author.Rules.{rules}
 use Rattle.forms.proofs.numbers.read_signed.Goals as goal
 
 -- the number after the minus

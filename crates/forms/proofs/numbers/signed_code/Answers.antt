@@ -1,5 +1,4 @@
-use mathlib.Core.Path.{◌≡◌}
-use mir.Syntax.{w32, w64}
+use mir.Syntax.{w64}
 use mir.ValLaws.{to_z-of_z}
 use Rattle.forms.proofs.Signs.{wide_fits, cast_same, below-fits, below_code, below-natural, above-natural, above-code}
 use Rattle.forms.proofs.numbers.signed_code.Goals as goal

@@ -1,6 +1,4 @@
-use native.Mathlib.Omega.{arith}
 use Rattle.forms.proofs.Signs.{plain_value, negated_fits, negated-value, no_value}
-use borrow.Author.Rules.{rules}
 use Rattle.forms.proofs.numbers.signed_value.Goals as goal
 
 pub returns-then-value-lt-MINUS : goal.returns-then-value-lt-MINUS

@@ -1,8 +1,7 @@
-use mathlib.Core.Path.{◌≡◌, refl, ◌∙◌}
+use mathlib.Core.Path.{refl, ◌∙◌}
 use Rattle.forms.specs.Forms.{read_by}
 use Rattle.forms.specs.declared.kinds.Syntax.TheVariants as syntax
 use Rattle.forms.proofs.Marks.{syntax-read}
-use borrow.Author.Rules.{rules}
 use Rattle.forms.proofs.scanning.read_item.Goals as goal
 
 pub returns-then-is_plain : goal.returns-then-is_plain

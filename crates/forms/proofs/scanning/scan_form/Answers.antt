@@ -1,13 +1,7 @@
-use mathlib.Core.Path.{◌≡◌, sym, ◌∙◌}
-use mathlib.Core.Bool.{true, false}
-use Prim.Native.Nat.{◌-◌}
+use mathlib.Core.Path.{sym, ◌∙◌}
 use native.Mathlib.Omega.{arith}
-use lib.ListN as lists
 use borrow.Author.Tests.{not-true, not-false}
-use borrow.Author.Rules.{rules}
-use Rattle.forms.specs.Kinds.{is_slot}
-use Rattle.forms.specs.Forms.{scanned_as}
-use Rattle.forms.proofs.Turns.{Scan, scan-start, scan-fits, scan-missed, byte-missed, byte_fits, byte-turn, slot_turn, scan-end}
+use Rattle.forms.proofs.Turns.{scan-start, scan-fits, scan-missed, byte-missed, byte_fits, byte-turn, slot_turn, scan-end}
 use Rattle.forms.proofs.scanning.scan_form.Goals as goal
 
 pub loop-i-init : goal.loop-i-init

@@ -1,4 +1,3 @@
-use borrow.Author.Rules.{rules}
 use Rattle.forms.proofs.Turns.{byte_at, byte_past}
 use Rattle.forms.proofs.scanning.stands.Goals as goal
 

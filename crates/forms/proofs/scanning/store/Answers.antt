@@ -1,7 +1,6 @@
-use mathlib.Core.Path.{◌≡◌, sym}
+use mathlib.Core.Path.{sym}
 use native.Mathlib.Omega.{arith}
 use lib.Seq.{set_out}
-use borrow.Author.Rules.{rules}
 use Rattle.forms.proofs.scanning.store.Goals as goal
 
 pub returns-else-count-lt6 : goal.returns-else-count-lt6

@@ -1,6 +1,5 @@
 use native.Mathlib.Omega.{arith}
-use lib.ListN.{length}
-use Rattle.forms.proofs.Lines.{Search, search-start, search-hit, search-less, search-turn, search-end, end-within, cut-length}
+use Rattle.forms.proofs.Lines.{search-start, search-hit, search-less, search-turn, search-end, end-within, cut-length}
 use Rattle.forms.proofs.tables.find.Goals as goal
 
 pub loop-rest-init : goal.loop-rest-init

@@ -1,6 +1,5 @@
-use native.Mathlib.Omega.{arith}
 use lib.ListN.{length}
-use Rattle.forms.proofs.Lines.{Search, search-start, search-hit, search-less, search-turn, search-end, end-within, cut-length}
+use Rattle.forms.proofs.Lines.{Search}
 use Rattle.forms.proofs.tables.find.Given as goal
 
 abbrev pub invariant-loop-rest : goal.invariant-loop-rest

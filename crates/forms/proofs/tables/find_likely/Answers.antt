@@ -1,5 +1,4 @@
 use borrow.Author.Tests.{not-true, not-false}
-use borrow.Author.Rules.{rules}
 use Rattle.forms.proofs.Index.{first-empty, first-missed, first-hit}
 use Rattle.forms.proofs.tables.find_likely.Goals as goal
 

@@ -1,7 +1,6 @@
 use Prim.Native.Nat.{◌+◌, ◌≤◌}
 use native.Mathlib.Omega.{arith}
 use lib.ListN.{length, get_or}
-use borrow.Author.Rules.{rules}
 use Rattle.forms.proofs.Index.{part-bounds, line-past, line-within, line-outside}
 use Rattle.forms.proofs.tables.line_at.Goals as goal
 

@@ -1,9 +1,6 @@
-use mathlib.Core.Path.{◌≡◌, sym, ◌∙◌}
-use Prim.Native.Nat.{◌+◌, ◌-◌, ◌≤◌}
+use mathlib.Core.Path.{sym, ◌∙◌}
 use native.Mathlib.Nat.{zero-add}
 use native.Mathlib.Omega.{arith}
-use lib.ListN.{length, drop}
-use Rattle.forms.specs.Tables.{line_end}
 use Rattle.forms.proofs.Lines.{end-here, end_later, end_none}
 use Rattle.forms.proofs.tables.line_end.Goals as goal
 

@@ -1,10 +1,7 @@
-use mathlib.Core.Path.{◌≡◌, sym, ◌∙◌}
+use mathlib.Core.Path.{◌≡◌}
 use Prim.Native.Nat.{◌+◌, ◌-◌, ◌≤◌}
-use native.Mathlib.Nat.{zero-add}
-use native.Mathlib.Omega.{arith}
 use lib.ListN.{length, drop}
 use Rattle.forms.specs.Tables.{line_end}
-use Rattle.forms.proofs.Lines.{end-here, end_later, end_none}
 use Rattle.forms.proofs.tables.line_end.Given as goal
 
 abbrev pub invariant-loop-i : goal.invariant-loop-i

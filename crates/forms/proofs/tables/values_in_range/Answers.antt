@@ -1,10 +1,7 @@
-use mathlib.Core.Path.{◌≡◌, sym, ◌∙◌}
-use Prim.Native.Nat.{◌-◌}
+use mathlib.Core.Path.{sym, ◌∙◌}
 use native.Mathlib.Omega.{arith}
-use lib.ListN.{length}
 use borrow.Author.Tests.{not-true, not-false}
-use borrow.Author.Rules.{rules}
-use Rattle.forms.proofs.Turns.{Ranged, range-start, range-plain, range-turn, range-stop, range-end}
+use Rattle.forms.proofs.Turns.{range-start, range-plain, range-turn, range-stop, range-end}
 use Rattle.forms.proofs.tables.values_in_range.Goals as goal
 
 pub loop-i-init : goal.loop-i-init

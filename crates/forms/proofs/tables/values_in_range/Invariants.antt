@@ -1,10 +1,6 @@
-use mathlib.Core.Path.{◌≡◌, sym, ◌∙◌}
 use Prim.Native.Nat.{◌-◌}
-use native.Mathlib.Omega.{arith}
 use lib.ListN.{length}
-use borrow.Author.Tests.{not-true, not-false}
-use borrow.Author.Rules.{rules}
-use Rattle.forms.proofs.Turns.{Ranged, range-start, range-plain, range-turn, range-stop, range-end}
+use Rattle.forms.proofs.Turns.{Ranged}
 use Rattle.forms.proofs.tables.values_in_range.Given as goal
 
 abbrev pub invariant-loop-i : goal.invariant-loop-i

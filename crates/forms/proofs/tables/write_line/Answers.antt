@@ -1,4 +1,3 @@
-use borrow.Author.Rules.{rules}
 use Rattle.forms.proofs.tables.write_line.Goals as goal
 
 pub returns : goal.returns

@@ -1,6 +1,5 @@
 use native.Mathlib.Omega.{arith}
 use Rattle.forms.proofs.Puts.{byte-within, byte_past, byte_last}
-use borrow.Author.Rules.{rules}
 use Rattle.forms.proofs.writing.put.Goals as goal
 
 pub returns-then-at-out : goal.returns-then-at-out

@@ -1,10 +1,7 @@
-use mathlib.Core.Path.{◌≡◌, sym, ◌∙◌}
-use Prim.Native.Nat.{◌-◌}
+use mathlib.Core.Path.{sym, ◌∙◌}
 use native.Mathlib.Omega.{arith}
-use lib.ListN.{length}
 use borrow.Author.Tests.{not-true, not-false}
-use borrow.Author.Rules.{rules}
-use Rattle.forms.proofs.Turns.{Put, put-start, put-plain, put-turn, put-end}
+use Rattle.forms.proofs.Turns.{put-start, put-plain, put-turn, put-end}
 use Rattle.forms.proofs.Puts.{same_length}
 use Rattle.forms.proofs.writing.put_form.Goals as goal
 

@@ -1,11 +1,6 @@
-use mathlib.Core.Path.{◌≡◌, sym, ◌∙◌}
 use Prim.Native.Nat.{◌-◌}
-use native.Mathlib.Omega.{arith}
 use lib.ListN.{length}
-use borrow.Author.Tests.{not-true, not-false}
-use borrow.Author.Rules.{rules}
-use Rattle.forms.proofs.Turns.{Put, put-start, put-plain, put-turn, put-end}
-use Rattle.forms.proofs.Puts.{same_length}
+use Rattle.forms.proofs.Turns.{Put}
 use Rattle.forms.proofs.writing.put_form.Given as goal
 
 abbrev pub invariant-loop-i : goal.invariant-loop-i

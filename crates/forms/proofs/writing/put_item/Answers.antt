@@ -3,7 +3,6 @@ use Rattle.forms.specs.Forms.{text_by}
 use Rattle.forms.specs.declared.kinds.Syntax.TheVariants as syntax
 use Rattle.forms.proofs.Marks.{syntax-text}
 use Rattle.forms.proofs.Puts.{like}
-use borrow.Author.Rules.{rules}
 use Rattle.forms.proofs.writing.put_item.Goals as goal
 
 pub returns-then-is_plain : goal.returns-then-is_plain

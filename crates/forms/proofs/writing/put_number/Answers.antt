@@ -1,5 +1,4 @@
 use native.Mathlib.Omega.{arith}
-use borrow.Author.Rules.{rules}
 use Rattle.forms.proofs.Digits.{digits-small, digits-two}
 use Rattle.forms.proofs.Puts.{like, then}
 use Rattle.forms.proofs.writing.put_number.Goals as goal

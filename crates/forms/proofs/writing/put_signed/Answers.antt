@@ -1,7 +1,6 @@
 use native.Mathlib.Omega.{arith}
 use Rattle.forms.proofs.Puts.{then, like}
 use Rattle.forms.proofs.Reading.{plus-text, minus-text}
-use borrow.Author.Rules.{rules}
 use Rattle.forms.proofs.writing.put_signed.Goals as goal
 
 pub returns-then-value-gt-MINUS : goal.returns-then-value-gt-MINUS
