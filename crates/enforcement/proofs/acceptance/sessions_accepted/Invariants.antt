@@ -1,0 +1,22 @@
+use borrow.Author.Tests.{not-true, not-false}
+use native.Mathlib.Omega.{arith}
+use mathlib.Core.Path.{◌≡◌, refl, sym, ◌∙◌}
+use mathlib.Core.Bool.{Bool, true}
+use mathlib.Core.List.{List}
+use Prim.Native.Nat.{ℕ, ◌≤◌, ◌-◌}
+use Rattle.sets.specs.Sets.{all}
+use Rattle.sets.proofs.Bounded.{all-next, all-stop}
+use Rattle.rules.specs.Families.{word_at, session_at}
+use Rattle.rules.specs.declared.sessions.Session.{Session}
+use Rattle.enforcement.specs.States.{session_accepted}
+use borrow.Author.Rules.{rules}
+use Rattle.enforcement.proofs.acceptance.sessions_accepted.Given as goal
+
+abbrev pub accepted : List Session → List ℕ → ℕ → Bool
+accepted sessions active i = session_accepted (session_at sessions i) (word_at active i)
+
+abbrev pub invariant-sessions : goal.invariant-sessions
+invariant-sessions l = (l.i ≤ 32) × (all l.i (accepted l.sessions l.active) ≡ true)
+
+abbrev pub decreases-sessions : goal.decreases-sessions
+decreases-sessions l = 32 - l.i
