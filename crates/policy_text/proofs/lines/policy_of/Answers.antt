@@ -1,5 +1,3 @@
--- `policy_text::lines::policy_of` meets its contract.
--- Assumes nothing.
 use mathlib.Core.Path.{◌≡◌, refl, ◌∙◌}
 use mathlib.Core.Logic.{◌⊎◌, inl, inr, ⊎_elim}
 use mathlib.Core.List.{List, [], ◌∷◌}
@@ -12,8 +10,8 @@ use Rattle.rules.specs.declared.families.Rule.{Rule}
 use Rattle.rules.specs.declared.families.Rule.TheVariants.{Prerequisite, MaxUsers, MaxRoles, MaxPermissions, MaxActive, StaticSeparation, DynamicSeparation, Dependency, TimeContext, LocationContext, HistorySeparation, BindingOfDuty}
 use Rattle.rules.specs.contracts.families.Rule as RuleT
 use Rattle.policy_text.specs.Lines.{policy_of, no_policy}
-use Rattle.policy_text.proofs.lines.policy_of.Statement.{statement}
-use Rattle.policy_text.proofs.lines.policy_of.Tie as tie
+use borrow.Enum.Refused.{opened}
+use Rattle.policy_text.proofs.lines.policy_of.Goals as goal
 
 -- the families of the last arm are none of the five
 abbrev others : List ℕ
@@ -46,80 +44,25 @@ none n (LocationContext r side) kind = refl
 none n (HistorySeparation p q) kind = refl
 none n (BindingOfDuty p q) kind = refl
 
-enum-known-rule : tie.Need-enum-known-rule
-enum-known-rule c = search rules
-
-short-line-requires : tie.Need-short-line-requires
-short-line-requires c κs = search rules
-
-enum-known-rule-2 : tie.Need-enum-known-rule-2
-enum-known-rule-2 c = search rules
-
-short-line-requires-2 : tie.Need-short-line-requires-2
-short-line-requires-2 c κs = search rules
-
-enum-known-rule-3 : tie.Need-enum-known-rule-3
-enum-known-rule-3 c = search rules
-
-short-line-requires-3 : tie.Need-short-line-requires-3
-short-line-requires-3 c κs = search rules
-
-enum-known-rule-4 : tie.Need-enum-known-rule-4
-enum-known-rule-4 c = search rules
-
-short-line-requires-4 : tie.Need-short-line-requires-4
-short-line-requires-4 c κs = search rules
-
-enum-known-rule-5 : tie.Need-enum-known-rule-5
-enum-known-rule-5 c = search rules
-
-short-line-requires-5 : tie.Need-short-line-requires-5
-short-line-requires-5 c κs = search rules
-
-no-policy-requires : tie.Need-no-policy-requires
-no-policy-requires c κs = search rules
-
-returns : tie.Need-returns
+pub returns-in-Prerequisite : goal.returns-in-Prerequisite
 unfolding policy_of
-returns c = rw c.before.before.rule.given.1 c.short-line.ensures
+returns-in-Prerequisite c = rw c.in-Prerequisite.is c.short_line.ensures
 
-returns-2 : tie.Need-returns-2
+pub returns-in-MaxUsers : goal.returns-in-MaxUsers
 unfolding policy_of
-returns-2 c = rw c.before.before.rule2.given.1 c.short-line2.ensures
+returns-in-MaxUsers c = rw c.in-MaxUsers.is c.short_line-in-MaxUsers.ensures
 
-returns-3 : tie.Need-returns-3
+pub returns-in-MaxRoles : goal.returns-in-MaxRoles
 unfolding policy_of
-returns-3 c = rw c.before.before.rule3.given.1 c.short-line3.ensures
+returns-in-MaxRoles c = rw c.in-MaxRoles.is c.short_line-in-MaxRoles.ensures
 
-returns-4 : tie.Need-returns-4
+pub returns-in-MaxActive : goal.returns-in-MaxActive
 unfolding policy_of
-returns-4 c = rw c.before.before.rule4.given.1 c.short-line4.ensures
+returns-in-MaxActive c = rw c.in-MaxActive.is c.short_line-in-MaxActive.ensures
 
-returns-5 : tie.Need-returns-5
+pub returns-in-Dependency : goal.returns-in-Dependency
 unfolding policy_of
-returns-5 c = rw c.before.before.rule5.given.1 c.short-line5.ensures
+returns-in-Dependency c = rw c.in-Dependency.is c.short_line-in-Dependency.ensures
 
-returns-6 : tie.Need-returns-6
-returns-6 c = c.no-policy.ensures ∙ none c.before.before.args.number c.before.before.args.rule c.before.match.keys6
-
-pub policy-of-spec : {M : Type 1} → statement M
-policy-of-spec =
-    tie.close
-    (tie.spec
-    enum-known-rule
-    short-line-requires
-    enum-known-rule-2
-    short-line-requires-2
-    enum-known-rule-3
-    short-line-requires-3
-    enum-known-rule-4
-    short-line-requires-4
-    enum-known-rule-5
-    short-line-requires-5
-    no-policy-requires
-    returns
-    returns-2
-    returns-3
-    returns-4
-    returns-5
-    returns-6)
+pub returns-in_default : goal.returns-in_default
+returns-in_default c = c.no_policy.ensures ∙ none c.args.number c.args.rule (opened c.in_default.in_default-own.keys6)
