@@ -2,8 +2,8 @@
 -- Assumes nothing.
 use mathlib.Core.Path.{◌≡◌, refl, sym, ◌∙◌, ap}
 use mathlib.Core.Bool.{Bool, true, false, ◌&&◌}
-use mathlib.Core.Logic.{◌↔◌, ◌⊎◌, inl, inr}
-use Prim.Native.Nat.{ℕ, suc, ◌+◌, ◌-◌, ◌*◌, ◌/◌, ◌%◌, ◌<◌, ◌≤◌}
+use mathlib.Core.Logic.{◌↔◌, inl, inr}
+use Prim.Native.Nat.{ℕ, suc, ◌+◌, ◌-◌, ◌/◌, ◌%◌, ◌<◌, ◌≤◌}
 use native.Mathlib.Decide.{ℕ_discrete}
 use native.Mathlib.Omega.{arith}
 use borrow.Author.Tests.{le-leb, leb-true, eqb-true}
@@ -17,7 +17,7 @@ use Rattle.calendar.specs.declared.days.Date.{Date}
 use Rattle.calendar.proofs.Years.{year-of, year-rest, year-next, year-start}
 use Rattle.calendar.proofs.Months.{month-of, month-span, month-next, first-start, last_end}
 use Rattle.calendar.proofs.Dates.{DayOfMonth, valid-date, is-day-of-month}
-use Rattle.calendar.proofs.Inverse.{digits, number-of-day, day-of-number}
+use Rattle.calendar.proofs.Inverse.{digits, day-of-number}
 
 -- ---- the lengths of the months
 

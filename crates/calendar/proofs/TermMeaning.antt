@@ -4,12 +4,12 @@ use mathlib.Core.Path.{◌≡◌, refl}
 use mathlib.Core.Bool.{true, false, ◌&&◌}
 use mathlib.Core.Logic.Iff
 use mathlib.Core.Logic.{◌↔◌, ◌⊎◌}
-use Prim.Native.Nat.{ℕ, ◌+◌, ◌-◌, ◌*◌, ◌/◌, ◌%◌, ◌<◌, ◌≤◌}
+use Prim.Native.Nat.{ℕ, ◌+◌, ◌*◌, ◌/◌, ◌%◌, ◌<◌, ◌≤◌}
 use native.Mathlib.Omega.{arith}
 use borrow.Author.Tests.{leb-false, lt-leb, eqb-true, eq-eqb, not-false}
 use lib.Dec.{leb, eqb}
 use Rattle.calendar.specs.Days.{day_of, minute_of, weekday_of, date_of, date_number, day_number, is_date}
-use Rattle.calendar.specs.Terms.{from_to, minute_from_to, minute_at, counted_weekday, ordinal_of, multiple_from, at_moment, between, is_year, is_time_of_day, term_in_range, term_sound, term_holds}
+use Rattle.calendar.specs.Terms.{from_to, minute_from_to, minute_at, counted_weekday, ordinal_of, at_moment, between, is_year, is_time_of_day, term_in_range, term_sound, term_holds}
 use Rattle.calendar.specs.Statements.{SuchDate, FromTo, InWeek, Between, TimeOfDay, RangedTerm, SoundTerm, AcceptedTerm}
 use Rattle.calendar.specs.declared.terms.Term.{Term}
 use Rattle.calendar.specs.declared.terms.Term.TheVariants.{Dates, Week, Months, Nth, Every}

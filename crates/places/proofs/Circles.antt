@@ -1,16 +1,15 @@
 -- A circle and a point known to an error: what holds of the points of the error circle, each at a scale k, by the sizes of differences.
 -- Assumes nothing.
-use mathlib.Core.Path.{◌≡◌, refl, sym, ◌∙◌, ap}
-use mathlib.Core.Bool.{Bool, true, false}
+use mathlib.Core.Path.{◌≡◌, refl, ap}
 use mathlib.Core.Logic.{⊎_elim}
-use Prim.Native.Nat.{ℕ, zero, suc, ◌+◌, ◌-◌, ◌*◌, ◌<◌, ◌≤◌}
-use native.Mathlib.Nat.{mul-le-mul, le_refl}
+use Prim.Native.Nat.{ℕ, ◌+◌, ◌-◌, ◌*◌, ◌<◌, ◌≤◌}
+use native.Mathlib.Nat.{mul-le-mul}
 use native.Mathlib.Omega.{arith}
 use lib.IntN.{ℤ, pos, negsuc, nat_abs, ◌+ℤ◌, ◌-ℤ◌, ◌*ℤ◌}
 use Rattle.places.specs.Places.{square}
 use Rattle.places.proofs.Integers.{above, below, one_side, size, difference, difference-scaled, sum-scaled, size-times, size-most, size-between, size-swapped}
 use Rattle.places.proofs.Squares.{third-side, scale-squares, unscale-squares, square-less}
-use Rattle.places.proofs.Roots.{Outward, outward}
+use Rattle.places.proofs.Roots.{Outward}
 
 -- ---- one coordinate: of the reported point (x), of the circle's centre (c), and of a point of the error circle (x')
 

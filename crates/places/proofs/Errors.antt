@@ -1,13 +1,12 @@
 -- 2026-04: an error of 0, with which the place test is document 01's, and a larger error, which makes nothing sure.
 -- Assumes nothing.
-use mathlib.Core.Path.{◌≡◌, refl, sym, ◌∙◌, ap}
+use mathlib.Core.Path.{◌≡◌, refl}
 use mathlib.Core.Logic.Iff
 use mathlib.Core.Logic.{◌↔◌, ⊎_elim}
 use Prim.Native.Nat.{ℕ, zero, suc, ◌+◌, ◌-◌, ◌*◌, ◌<◌, ◌≤◌}
 use native.Mathlib.Nat.{mul-le-mul, le_refl}
 use native.Mathlib.Omega.{arith}
-use lib.IntN.{ℤ, pos, nat_abs, ◌+ℤ◌, ◌-ℤ◌, ◌*ℤ◌, +ℤ_idr}
-use lib.Signed.{◌≤ℤ◌, ◌<ℤ◌}
+use lib.IntN.{ℤ, pos, nat_abs, ◌-ℤ◌, ◌*ℤ◌, +ℤ_idr}
 use Rattle.places.specs.Places.{square, locate, is_inside, is_outside}
 use Rattle.places.specs.Statements.{RangedPoint, AcceptedShape, Within, SurelyInside, SurelyOutside, InErrorCircle}
 use Rattle.places.proofs.Integers.{same, size_none}
@@ -17,7 +16,7 @@ use Rattle.places.specs.declared.Point.{Point}
 use Rattle.places.specs.declared.Position.TheVariants.{Known}
 use Rattle.places.specs.declared.Shape.{Shape}
 use Rattle.places.specs.declared.Shape.TheVariants.{Circle, Box}
-use Rattle.places.specs.declared.Outcome.TheVariants.{Inside, Outside, Unsure, Neither}
+use Rattle.places.specs.declared.Outcome.TheVariants.{Inside, Outside, Unsure}
 
 -- ---- an error of 0
 

@@ -9,10 +9,10 @@ use native.Mathlib.Nat.{mul-le-mul}
 use native.Mathlib.Omega.{arith}
 use borrow.Author.Tests.{le-leb, leb-true, lt-ltb, ltb-true}
 use lib.Dec.{leb, ltb, leb→le, le→leb, ltb→lt, lt→ltb}
-use lib.IntN.{ℤ, pos, negsuc, nat_abs, ◌+ℤ◌, ◌-ℤ◌, ◌*ℤ◌}
+use lib.IntN.{ℤ, pos, negsuc, ◌+ℤ◌, ◌-ℤ◌, ◌*ℤ◌}
 use lib.Signed.{le_z, ◌≤ℤ◌, ◌<ℤ◌}
-use Rattle.places.specs.Places.{square, squared_distance, inside_circle, outside_circle, within_by, inside_box, beyond, outside_box, surely_inside, surely_outside, on_grid, point_in_range, shape_in_range, shape_sound, outcome_of, locate, is_inside, is_outside, side_holds}
-use Rattle.places.specs.Statements.{Coordinate, RangedPoint, RangedShape, SoundShape, AcceptedShape, square_ℤ, squared_distance_ℤ, Within, SurelyInside, SurelyOutside}
+use Rattle.places.specs.Places.{square, inside_circle, outside_circle, within_by, inside_box, beyond, outside_box, surely_inside, surely_outside, on_grid, point_in_range, shape_in_range, shape_sound, outcome_of, locate, is_inside, is_outside, side_holds}
+use Rattle.places.specs.Statements.{Coordinate, RangedPoint, RangedShape, SoundShape, AcceptedShape, square_ℤ, SurelyInside, SurelyOutside}
 use Rattle.places.proofs.Orders.{at_most, is_true, at-most_ℤ, both-mean, one-fails, above_ℤ}
 use Rattle.places.proofs.Boxes.{Nearest, nearest, beyond-nearest}
 use Rattle.places.specs.declared.Point.{Point}

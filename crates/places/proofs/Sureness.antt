@@ -5,26 +5,26 @@ use mathlib.Core.Path.{◌≡◌, refl, sym, ◌∙◌, ap}
 use mathlib.Core.Bool.{Bool, true, false, true≢false}
 use mathlib.Core.Logic.Iff
 use mathlib.Core.Logic.{◌↔◌, ⊎_elim}
-use Prim.Native.Nat.{ℕ, zero, suc, ◌+◌, ◌-◌, ◌*◌, ◌<◌, ◌≤◌}
-use native.Mathlib.Nat.{mul-le-mul, le_refl}
+use Prim.Native.Nat.{ℕ, ◌+◌, ◌-◌, ◌*◌, ◌<◌, ◌≤◌}
+use native.Mathlib.Nat.{mul-le-mul}
 use native.Mathlib.Omega.{arith}
 use borrow.Author.Tests.{leb-true, leb-false}
 use lib.Dec.{leb}
 use lib.IntN.{ℤ, pos, negsuc, nat_abs, ◌+ℤ◌, ◌-ℤ◌, ◌*ℤ◌}
-use lib.Signed.{le_z, ◌≤ℤ◌, ◌<ℤ◌}
+use lib.Signed.{le_z}
 use Rattle.places.specs.Places.{square, beyond, locate, is_inside, is_outside, side_holds}
-use Rattle.places.specs.Statements.{RangedPoint, SoundShape, AcceptedShape, Within, SurelyInside, SurelyOutside, InErrorCircle, scaled, WithinAt, BeyondAt, OnSide, EveryPoint, SomePoint}
+use Rattle.places.specs.Statements.{RangedPoint, SoundShape, AcceptedShape, SurelyInside, SurelyOutside, InErrorCircle, WithinAt, BeyondAt, OnSide, EveryPoint, SomePoint}
 use Rattle.places.proofs.Integers.{size_none, size-swapped}
 use Rattle.places.proofs.Squares.{root-most, unscale-squares}
 use Rattle.places.proofs.Roots.{Outward, outward}
 use Rattle.places.proofs.Orders.{at-most_ℤ}
 use Rattle.places.proofs.Circles as circle
 use Rattle.places.proofs.Circles.{moved, moved_by}
-use Rattle.places.proofs.Boxes.{low-every, high-every, low-passed, high-passed, beyond-least, one-times, Nearest, nearest, beyond-nearest}
+use Rattle.places.proofs.Boxes.{low-every, high-every, low-passed, high-passed, beyond-least, one-times, nearest, beyond-nearest}
 use Rattle.places.proofs.Meaning.{squares-most, squares-over, three-outcomes, inside-located, outside-located, known-means, known-point}
 use Rattle.places.specs.declared.Point.{Point}
 use Rattle.places.specs.declared.Position.{Position}
-use Rattle.places.specs.declared.Position.TheVariants.{Unknown, Known}
+use Rattle.places.specs.declared.Position.TheVariants.{Known}
 use Rattle.places.specs.declared.Shape.{Shape}
 use Rattle.places.specs.declared.Shape.TheVariants.{Circle, Box}
 use Rattle.places.specs.declared.Side.{Side}

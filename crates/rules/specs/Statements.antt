@@ -1,7 +1,7 @@
 -- Document 01, 'Ranges', 'Rules' and 'Refused', as statements over numbers: what 11, 13 and 14 look for in a rule. proofs/Acceptance.antt shows
 -- that the tests of Acceptance.antt say the same.
 -- Assumes nothing.
-use Rattle.std.specs.Prelude.{ℕ, ◌≤◌, ◌<◌, ◌≡◌}
+use Rattle.std.specs.Prelude.{◌≤◌, ◌<◌, ◌≡◌}
 use Rattle.calendar.specs.Statements.{RangedTerm, SoundTerm}
 use Rattle.places.specs.Statements.{RangedShape, SoundShape}
 use Rattle.places.specs.declared.Side.TheVariants as side

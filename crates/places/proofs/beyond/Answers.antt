@@ -1,5 +1,3 @@
-use borrow.Author.Rules.{rules}
-use mathlib.Core.Path.{◌≡◌, sym, ◌∙◌}
 use Rattle.places.proofs.Signed.{read_back}
 use Rattle.places.proofs.Orders.{at-most-not-less}
 use Rattle.places.proofs.beyond.Goals as goal

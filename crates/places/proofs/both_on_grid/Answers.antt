@@ -1,4 +1,3 @@
-use borrow.Author.Rules.{rules}
 use mir.Facts.{to_z-of_z}
 use Rattle.places.proofs.Signed.{read_back, read_wide, wide}
 use Rattle.places.proofs.both_on_grid.Goals as goal

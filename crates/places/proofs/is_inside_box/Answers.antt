@@ -1,4 +1,3 @@
-use borrow.Author.Rules.{rules}
 use Rattle.places.specs.Places.{inside_box}
 use Rattle.places.proofs.Signed.{read_back}
 use Rattle.places.proofs.is_inside_box.Goals as goal

@@ -1,4 +1,3 @@
-use borrow.Author.Rules.{rules}
 use borrow.Author.Tests.{le-leb, lt-leb}
 use Rattle.places.specs.Places.{inside_circle}
 use Rattle.places.proofs.Signed.{read_back}

@@ -1,4 +1,3 @@
-use borrow.Author.Rules.{rules}
 use Rattle.places.specs.Places.{outside_box}
 use Rattle.places.proofs.Signed.{read_back}
 use Rattle.places.proofs.Orders.{more-not-at-most}

@@ -1,4 +1,3 @@
-use borrow.Author.Rules.{rules}
 use Rattle.places.proofs.Signed.{read_back}
 use Rattle.places.proofs.Boxes.{side-tests}
 use Rattle.places.proofs.within_by.Goals as goal

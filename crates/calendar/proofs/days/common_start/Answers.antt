@@ -1,5 +1,4 @@
 use native.Mathlib.Omega.{arith}
-use borrow.Author.Rules.{rules}
 use Rattle.calendar.specs.Days.{common_start}
 use Rattle.calendar.proofs.Months.{january-first}
 use Rattle.calendar.proofs.days.common_start.Goals as goal

@@ -1,4 +1,3 @@
-use borrow.Author.Rules.{rules}
 use borrow.Author.Tests.{lt-ltb, le-ltb}
 use Rattle.calendar.specs.Days.{date_found}
 use Rattle.calendar.proofs.days.date_of.Goals as goal

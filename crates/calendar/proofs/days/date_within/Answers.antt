@@ -1,6 +1,5 @@
 use Prim.Native.Nat.{◌-◌}
 use native.Mathlib.Omega.{arith}
-use borrow.Author.Rules.{rules}
 use Rattle.calendar.specs.Days.{date_of, date_in}
 use Rattle.calendar.proofs.Years.{YearOf, year-of, year-rest}
 use Rattle.calendar.proofs.Months.{MonthOf, month-of}

@@ -1,6 +1,5 @@
 use Prim.Native.Nat.{◌+◌, ◌-◌, ◌/◌, ◌%◌, ◌≤◌}
 use native.Mathlib.Omega.{arith}
-use borrow.Author.Rules.{rules}
 use Rattle.calendar.specs.Days.{day_number}
 use Rattle.calendar.proofs.Years.{year-start}
 use Rattle.calendar.proofs.Months.{start_small}

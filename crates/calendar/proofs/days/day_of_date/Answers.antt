@@ -1,5 +1,4 @@
 use mathlib.Core.Path.{sym, ◌∙◌}
-use borrow.Author.Rules.{rules}
 use Rattle.calendar.specs.Days.{day_of_date}
 use Rattle.calendar.proofs.days.day_of_date.Goals as goal
 

@@ -1,5 +1,4 @@
 use native.Mathlib.Nat.{zero-add}
-use borrow.Author.Rules.{rules}
 use borrow.Author.Tests.{lt-ltb, le-ltb}
 use Rattle.calendar.proofs.days.from_march_before.Goals as goal
 

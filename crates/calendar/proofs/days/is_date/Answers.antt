@@ -1,4 +1,3 @@
-use borrow.Author.Rules.{rules}
 use borrow.Author.Tests.{le-leb, lt-leb}
 use Rattle.calendar.specs.Days.{is_date}
 use Rattle.calendar.proofs.days.is_date.Goals as goal

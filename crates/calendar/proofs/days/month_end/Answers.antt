@@ -1,4 +1,3 @@
-use borrow.Author.Rules.{rules}
 use borrow.Author.Tests.{lt-ltb, le-ltb}
 use Rattle.calendar.specs.Days.{month_end}
 use Rattle.calendar.proofs.days.month_end.Goals as goal

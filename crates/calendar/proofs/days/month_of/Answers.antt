@@ -1,9 +1,8 @@
 use Prim.Native.Nat.{◌≤◌, ◌<◌}
-use mathlib.Core.Path.{◌≡◌, refl, sym, ◌∙◌}
+use mathlib.Core.Path.{refl, sym, ◌∙◌}
 use native.Mathlib.Omega.{arith}
-use borrow.Author.Rules.{rules}
 use Rattle.calendar.specs.Days.{month_start, month_of}
-use Rattle.calendar.proofs.Months.{month_up_to, month-skip, month-stop}
+use Rattle.calendar.proofs.Months.{month-skip, month-stop}
 use Rattle.calendar.proofs.days.month_of.Goals as goal
 
 pub loop-month-init : goal.loop-month-init

@@ -1,9 +1,7 @@
-use Prim.Native.Nat.{◌≤◌, ◌<◌}
-use mathlib.Core.Path.{◌≡◌, refl, sym, ◌∙◌}
-use native.Mathlib.Omega.{arith}
-use borrow.Author.Rules.{rules}
-use Rattle.calendar.specs.Days.{month_start, month_of}
-use Rattle.calendar.proofs.Months.{month_up_to, month-skip, month-stop}
+use Prim.Native.Nat.{◌≤◌}
+use mathlib.Core.Path.{◌≡◌}
+use Rattle.calendar.specs.Days.{month_of}
+use Rattle.calendar.proofs.Months.{month_up_to}
 use Rattle.calendar.proofs.days.month_of.Given as goal
 
 abbrev pub invariant-loop-month : goal.invariant-loop-month

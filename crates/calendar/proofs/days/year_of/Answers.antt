@@ -1,5 +1,4 @@
 use native.Mathlib.Omega.{arith}
-use borrow.Author.Rules.{rules}
 use Rattle.calendar.proofs.Years.{year-formula}
 use Rattle.calendar.proofs.days.year_of.Goals as goal
 

@@ -1,4 +1,3 @@
-use borrow.Author.Rules.{rules}
 use Rattle.calendar.specs.Terms.{counted_weekday}
 use Rattle.calendar.proofs.terms.counted_weekday.Goals as goal
 

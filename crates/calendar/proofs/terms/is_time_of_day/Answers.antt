@@ -1,4 +1,3 @@
-use borrow.Author.Rules.{rules}
 use Rattle.calendar.proofs.terms.is_time_of_day.Goals as goal
 
 pub returns : goal.returns

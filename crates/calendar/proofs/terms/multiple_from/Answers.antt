@@ -1,4 +1,3 @@
-use borrow.Author.Rules.{rules}
 use borrow.Author.Tests.{le-leb, lt-leb}
 use Rattle.calendar.specs.Terms.{multiple_from}
 use Rattle.calendar.proofs.terms.multiple_from.Goals as goal

@@ -1,4 +1,3 @@
-use borrow.Author.Rules.{rules}
 use Rattle.places.specs.Places.{point_in_range}
 use Rattle.places.proofs.Signed.{read_back}
 use Rattle.places.proofs.Point.in_range.Goals as goal

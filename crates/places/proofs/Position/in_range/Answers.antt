@@ -1,4 +1,3 @@
-use borrow.Author.Rules.{rules}
 use Rattle.places.specs.Places.{position_in_range}
 use Rattle.places.proofs.Position.in_range.Goals as goal
 

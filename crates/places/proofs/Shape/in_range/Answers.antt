@@ -1,4 +1,3 @@
-use borrow.Author.Rules.{rules}
 use Rattle.places.specs.Places.{shape_in_range}
 use Rattle.places.proofs.Signed.{read_back}
 use Rattle.places.proofs.Shape.in_range.Goals as goal

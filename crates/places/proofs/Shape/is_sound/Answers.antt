@@ -1,4 +1,3 @@
-use borrow.Author.Rules.{rules}
 use Rattle.places.specs.Places.{shape_sound}
 use Rattle.places.proofs.Signed.{read_back}
 use Rattle.places.proofs.Shape.is_sound.Goals as goal

@@ -1,4 +1,3 @@
-use borrow.Author.Rules.{rules}
 use Rattle.places.specs.Places.{surely_inside}
 use Rattle.places.proofs.Signed.{read_back}
 use Rattle.places.proofs.Shape.is_surely_inside.Goals as goal

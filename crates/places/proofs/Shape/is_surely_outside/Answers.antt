@@ -1,6 +1,5 @@
-use borrow.Author.Rules.{rules}
 use native.Mathlib.Omega.{arith}
-use Rattle.places.specs.Places.{surely_outside, shape_in_range}
+use Rattle.places.specs.Places.{surely_outside}
 use Rattle.places.specs.declared.Shape.TheVariants.{Circle}
 use Rattle.places.proofs.Signed.{read_back}
 use Rattle.places.proofs.Meaning.{shape-range-means}

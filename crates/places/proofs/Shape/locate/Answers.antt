@@ -1,9 +1,8 @@
-use borrow.Author.Rules.{rules}
 use borrow.Author.Tests.{not-true, not-false}
 use mathlib.Core.Path.{◌≡◌, sym, ◌∙◌}
 use mathlib.Core.Bool.{true, ◌&&◌}
 use Rattle.places.proofs.Orders.{left-true}
-use Rattle.places.specs.Places.{locate, outcome_of, surely_inside, surely_outside, shape_in_range, shape_sound, point_in_range}
+use Rattle.places.specs.Places.{locate, outcome_of, surely_outside, shape_in_range, shape_sound, point_in_range}
 use Rattle.places.proofs.Shape.locate.Goals as goal
 use Rattle.places.proofs.Shape.locate.Goals.{After-is_surely_inside, Else-not-in_range, Else-not-in_range-is_sound}
 

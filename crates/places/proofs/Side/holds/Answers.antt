@@ -1,4 +1,3 @@
-use borrow.Author.Rules.{rules}
 use Rattle.places.specs.Places.{side_holds}
 use Rattle.places.proofs.Side.holds.Goals as goal
 

@@ -1,11 +1,7 @@
-use borrow.Author.Rules.{rules}
-use borrow.Author.Tests.{not-true, not-false}
-use native.Mathlib.Omega.{arith}
-use mathlib.Core.Path.{◌≡◌, refl, sym, ◌∙◌}
+use mathlib.Core.Path.{◌≡◌}
 use mathlib.Core.Bool.{true}
 use Prim.Native.Nat.{◌≤◌, ◌-◌}
 use Rattle.sets.specs.Sets.{all}
-use Rattle.sets.proofs.Bounded.{all-next, all-stop}
 use Rattle.rules.specs.Acceptance.{right_at, right_accepted}
 use Rattle.rules.proofs.rights.rights_accepted.Given as goal
 

@@ -1,8 +1,6 @@
 use borrow.Author.Rules.{rules}
 use mathlib.Core.Path.{◌≡◌, refl, ◌∙◌}
-use Prim.Native.Nat.{◌≤◌, ◌-◌}
 use native.Mathlib.Omega.{arith}
-use Rattle.rules.specs.Families.{word_at}
 use Rattle.sets.specs.Sets.{union_of}
 use Rattle.sets.proofs.Built.{union-of-in}
 use Rattle.rules.proofs.tests.active_somewhere.Goals as goal

@@ -1,10 +1,7 @@
-use borrow.Author.Rules.{rules}
-use mathlib.Core.Path.{◌≡◌, refl, ◌∙◌}
+use mathlib.Core.Path.{◌≡◌}
 use Prim.Native.Nat.{◌≤◌, ◌-◌}
-use native.Mathlib.Omega.{arith}
 use Rattle.rules.specs.Families.{word_at}
 use Rattle.sets.specs.Sets.{union_of}
-use Rattle.sets.proofs.Built.{union-of-in}
 use Rattle.rules.proofs.tests.active_somewhere.Given as goal
 
 abbrev pub invariant-loop-session : goal.invariant-loop-session

@@ -4,12 +4,11 @@ use borrow.Author.Tests.{le-leb, lt-leb}
 use Rattle.rules.proofs.Steps.{bound}
 use borrow.Author.Rules.{rules}
 use mathlib.Core.Path.{◌≡◌, refl, sym, ap, ◌∙◌}
-use Prim.Native.Nat.{ℕ, ◌≤◌, ◌-◌}
+use Prim.Native.Nat.{ℕ}
 use native.Mathlib.Omega.{arith}
 use Rattle.rules.specs.Breach.{first_broken}
 use Rattle.rules.specs.Families.{binding_of_duty_at}
 use Rattle.rules.proofs.Breach.{first_more, first_found}
-use Rattle.rules.specs.declared.tests.Tested.TheVariants.{Kept}
 use Rattle.rules.proofs.tests.binding_of_duty.Goals as goal
 use Rattle.rules.proofs.tests.binding_of_duty.Goals.{After-count}
 

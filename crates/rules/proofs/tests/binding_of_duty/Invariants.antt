@@ -1,14 +1,7 @@
-use Rattle.sets.specs.Sets.{member, count}
-use lib.Dec.{leb}
-use borrow.Author.Tests.{le-leb, lt-leb}
-use Rattle.rules.proofs.Steps.{bound}
-use borrow.Author.Rules.{rules}
-use mathlib.Core.Path.{◌≡◌, refl, sym, ap, ◌∙◌}
-use Prim.Native.Nat.{ℕ, ◌≤◌, ◌-◌}
-use native.Mathlib.Omega.{arith}
+use mathlib.Core.Path.{◌≡◌}
+use Prim.Native.Nat.{◌≤◌, ◌-◌}
 use Rattle.rules.specs.Breach.{first_broken}
 use Rattle.rules.specs.Families.{binding_of_duty_at}
-use Rattle.rules.proofs.Breach.{first_more, first_found}
 use Rattle.rules.specs.declared.tests.Tested.TheVariants.{Kept}
 use Rattle.rules.proofs.tests.binding_of_duty.Given as goal
 

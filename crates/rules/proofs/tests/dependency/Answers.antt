@@ -1,7 +1,6 @@
 use mathlib.Core.Path.{◌≡◌, sym, ◌∙◌}
 use Rattle.rules.specs.Families.{is_active, dependency_at}
 use Rattle.rules.proofs.Steps.{active-somewhere, while-met, while-unmet}
-use borrow.Author.Rules.{rules}
 use Rattle.rules.proofs.tests.dependency.Goals as goal
 use Rattle.rules.proofs.tests.dependency.Goals.{After-member}
 

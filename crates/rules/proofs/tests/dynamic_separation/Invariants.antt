@@ -1,10 +1,7 @@
-use borrow.Author.Rules.{rules}
-use mathlib.Core.Path.{◌≡◌, refl, sym, ◌∙◌}
+use mathlib.Core.Path.{◌≡◌}
 use Prim.Native.Nat.{◌≤◌, ◌-◌}
-use native.Mathlib.Omega.{arith}
 use Rattle.rules.specs.Breach.{first_broken}
-use Rattle.rules.proofs.Breach.{first_more, first_found}
-use Rattle.rules.proofs.Steps.{not_in_both, in_both}
+use Rattle.rules.proofs.Steps.{not_in_both}
 use Rattle.rules.specs.declared.tests.Tested.TheVariants.{Kept}
 use Rattle.rules.proofs.tests.dynamic_separation.Given as goal
 

@@ -1,11 +1,9 @@
 use borrow.Author.Rules.{rules}
-use mathlib.Core.Path.{◌≡◌, refl, sym}
-use Prim.Native.Nat.{◌≤◌, ◌-◌}
+use mathlib.Core.Path.{refl, sym}
 use native.Mathlib.Omega.{arith}
 use Rattle.rules.specs.Breach.{first_broken}
 use Rattle.rules.specs.Families.{inactive_at}
 use Rattle.rules.proofs.Breach.{first_more, first_found}
-use Rattle.rules.specs.declared.tests.Tested.TheVariants.{Kept}
 use Rattle.rules.proofs.tests.first_active.Goals as goal
 
 pub sessions-init : goal.sessions-init

@@ -3,12 +3,11 @@ use borrow.Author.Tests.{not-true, not-false}
 use Rattle.rules.proofs.Steps.{separated}
 use borrow.Author.Rules.{rules}
 use mathlib.Core.Path.{◌≡◌, refl, sym, ap, ◌∙◌}
-use Prim.Native.Nat.{ℕ, ◌≤◌, ◌-◌}
+use Prim.Native.Nat.{ℕ}
 use native.Mathlib.Omega.{arith}
 use Rattle.rules.specs.Breach.{first_broken}
 use Rattle.rules.specs.Families.{history_separation_at}
 use Rattle.rules.proofs.Breach.{first_more, first_found}
-use Rattle.rules.specs.declared.tests.Tested.TheVariants.{Kept}
 use Rattle.rules.proofs.tests.history_separation.Goals as goal
 use Rattle.rules.proofs.tests.history_separation.Goals.{After-is_empty}
 

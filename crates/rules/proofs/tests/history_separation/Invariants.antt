@@ -1,13 +1,7 @@
-use lib.Dec.{eqb}
-use borrow.Author.Tests.{not-true, not-false}
-use Rattle.rules.proofs.Steps.{separated}
-use borrow.Author.Rules.{rules}
-use mathlib.Core.Path.{◌≡◌, refl, sym, ap, ◌∙◌}
-use Prim.Native.Nat.{ℕ, ◌≤◌, ◌-◌}
-use native.Mathlib.Omega.{arith}
+use mathlib.Core.Path.{◌≡◌}
+use Prim.Native.Nat.{◌≤◌, ◌-◌}
 use Rattle.rules.specs.Breach.{first_broken}
 use Rattle.rules.specs.Families.{history_separation_at}
-use Rattle.rules.proofs.Breach.{first_more, first_found}
 use Rattle.rules.specs.declared.tests.Tested.TheVariants.{Kept}
 use Rattle.rules.proofs.tests.history_separation.Given as goal
 

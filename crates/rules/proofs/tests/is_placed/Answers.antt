@@ -2,7 +2,6 @@ use mathlib.Core.Bool.{not-not}
 use mathlib.Core.Path.{sym, ◌∙◌}
 use borrow.Author.Tests.{not-true, not-false}
 use Rattle.rules.specs.Families.{placed_at}
-use borrow.Author.Rules.{rules}
 use Rattle.rules.proofs.tests.is_placed.Goals as goal
 
 pub returns-then-not-member : goal.returns-then-not-member

@@ -1,12 +1,8 @@
-use borrow.Author.Rules.{rules}
-use mathlib.Core.Path.{◌≡◌, refl, sym}
+use mathlib.Core.Path.{◌≡◌}
 use Prim.Native.Nat.{◌≤◌, ◌-◌}
-use native.Mathlib.Omega.{arith}
 use Rattle.rules.specs.Breach.{first_broken}
 use Rattle.rules.specs.Families.{max_active_at}
-use Rattle.rules.proofs.Breach.{first_more, first_found}
 use Rattle.rules.specs.declared.tests.Tested.TheVariants.{Kept}
-use borrow.Author.Tests.{le-leb, lt-leb}
 use Rattle.rules.proofs.tests.max_active.Given as goal
 
 abbrev pub invariant-sessions : goal.invariant-sessions

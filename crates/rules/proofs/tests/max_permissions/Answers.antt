@@ -1,5 +1,4 @@
 use Rattle.rules.specs.Families.{max_permissions}
-use borrow.Author.Rules.{rules}
 use Rattle.rules.proofs.tests.max_permissions.Goals as goal
 
 pub returns : goal.returns

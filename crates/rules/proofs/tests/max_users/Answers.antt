@@ -1,6 +1,5 @@
 use Rattle.rules.specs.Families.{max_users}
 use Rattle.sets.proofs.Built.{count-set-of}
-use borrow.Author.Rules.{rules}
 use Rattle.rules.proofs.tests.max_users.Goals as goal
 
 pub returns : goal.returns

@@ -1,6 +1,5 @@
 use borrow.Author.Tests.{le-ltb, lt-ltb}
 use Rattle.rules.specs.Families.{permissions_of}
-use borrow.Author.Rules.{rules}
 use Rattle.rules.proofs.tests.permissions_of.Goals as goal
 
 pub returns-then-role-ge-ROLES : goal.returns-then-role-ge-ROLES

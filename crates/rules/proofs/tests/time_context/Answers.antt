@@ -1,7 +1,6 @@
 use mathlib.Core.Path.{sym, ◌∙◌}
 use Rattle.rules.specs.Families.{time_context_at}
 use Rattle.rules.proofs.Steps.{while-met, while-unmet}
-use borrow.Author.Rules.{rules}
 use Rattle.rules.proofs.tests.time_context.Goals as goal
 
 pub returns-then-holds : goal.returns-then-holds

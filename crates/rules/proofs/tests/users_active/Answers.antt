@@ -1,12 +1,11 @@
 use Rattle.rules.specs.Families.{session_at}
 use borrow.Author.Rules.{rules}
 use mathlib.Core.Path.{◌≡◌, sym, ap, ◌∙◌}
-use Prim.Native.Nat.{ℕ, ◌≤◌, ◌-◌}
+use Prim.Native.Nat.{ℕ}
 use native.Mathlib.Omega.{arith}
 use Rattle.sets.specs.Sets.{with}
-use Rattle.rules.proofs.Steps.{active_users, no-users, user-more, user-same}
+use Rattle.rules.proofs.Steps.{no-users, user-more, user-same}
 use Rattle.rules.specs.Families.{is_active_for}
-use mathlib.Core.Logic.{⊎_elim}
 use Rattle.rules.proofs.tests.users_active.Goals as goal
 use Rattle.rules.proofs.tests.users_active.Goals.{else-member, then-member}
 

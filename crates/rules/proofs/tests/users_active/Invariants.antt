@@ -1,12 +1,6 @@
-use Rattle.rules.specs.Families.{session_at}
-use borrow.Author.Rules.{rules}
-use mathlib.Core.Path.{◌≡◌, sym, ap, ◌∙◌}
-use Prim.Native.Nat.{ℕ, ◌≤◌, ◌-◌}
-use native.Mathlib.Omega.{arith}
-use Rattle.sets.specs.Sets.{with}
-use Rattle.rules.proofs.Steps.{active_users, no-users, user-more, user-same}
-use Rattle.rules.specs.Families.{is_active_for}
-use mathlib.Core.Logic.{⊎_elim}
+use mathlib.Core.Path.{◌≡◌}
+use Prim.Native.Nat.{◌≤◌, ◌-◌}
+use Rattle.rules.proofs.Steps.{active_users}
 use Rattle.rules.proofs.tests.users_active.Given as goal
 
 abbrev pub invariant-loop-i : goal.invariant-loop-i

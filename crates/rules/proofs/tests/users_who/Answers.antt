@@ -1,6 +1,5 @@
 use borrow.Author.Tests.{le-ltb, lt-ltb}
 use Rattle.rules.specs.Families.{users_who}
-use borrow.Author.Rules.{rules}
 use Rattle.rules.proofs.tests.users_who.Goals as goal
 
 pub returns-then-permission-ge-PERMISSIONS : goal.returns-then-permission-ge-PERMISSIONS

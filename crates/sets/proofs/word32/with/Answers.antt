@@ -1,4 +1,3 @@
-use borrow.Author.Rules.{rules}
 use Rattle.sets.proofs.Width.{with-past, with-word}
 use Rattle.sets.proofs.word32.with.Goals as goal
 

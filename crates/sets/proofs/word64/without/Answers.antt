@@ -1,4 +1,3 @@
-use borrow.Author.Rules.{rules}
 use Rattle.sets.proofs.Width.{without-past, without-word}
 use Rattle.sets.proofs.word64.without.Goals as goal
 

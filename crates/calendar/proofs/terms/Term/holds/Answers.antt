@@ -1,6 +1,5 @@
 use mathlib.Core.Path.{◌≡◌, sym, ◌∙◌}
 use mathlib.Core.Bool.{true}
-use borrow.Author.Rules.{rules}
 use borrow.Author.Tests.{le-leb, lt-leb, not-true, not-false}
 use Rattle.calendar.specs.Terms.{term_holds, term_in_range, term_sound}
 use Rattle.calendar.proofs.terms.Term.holds.Goals as goal

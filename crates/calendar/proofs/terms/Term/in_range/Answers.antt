@@ -1,4 +1,3 @@
-use borrow.Author.Rules.{rules}
 use Rattle.calendar.specs.Terms.{term_in_range}
 use Rattle.calendar.proofs.terms.Term.in_range.Goals as goal
 

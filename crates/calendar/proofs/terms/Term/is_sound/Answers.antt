@@ -1,4 +1,3 @@
-use borrow.Author.Rules.{rules}
 use Rattle.calendar.specs.Terms.{term_sound}
 use Rattle.calendar.proofs.terms.Term.is_sound.Goals as goal
 

@@ -1,4 +1,3 @@
-use borrow.Author.Rules.{rules}
 use Rattle.rules.specs.Acceptance.{rule_in_range}
 use Rattle.rules.proofs.families.Rule.in_range.Goals as goal
 

@@ -1,4 +1,3 @@
-use borrow.Author.Rules.{rules}
 use Rattle.rules.proofs.families.Rule.is_accepted.Goals as goal
 
 pub returns : goal.returns

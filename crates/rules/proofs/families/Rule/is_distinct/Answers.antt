@@ -1,4 +1,3 @@
-use borrow.Author.Rules.{rules}
 use Rattle.rules.specs.Acceptance.{rule_distinct}
 use Rattle.rules.proofs.families.Rule.is_distinct.Goals as goal
 

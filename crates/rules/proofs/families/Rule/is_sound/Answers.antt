@@ -1,4 +1,3 @@
-use borrow.Author.Rules.{rules}
 use Rattle.rules.specs.Acceptance.{rule_sound}
 use Rattle.rules.proofs.families.Rule.is_sound.Goals as goal
 

@@ -1,5 +1,4 @@
 use Rattle.rules.specs.Families.{tested}
-use borrow.Author.Rules.{rules}
 use Rattle.rules.proofs.families.Rule.test.Goals as goal
 
 pub returns-in-Prerequisite : goal.returns-in-Prerequisite

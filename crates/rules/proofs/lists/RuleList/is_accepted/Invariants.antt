@@ -1,15 +1,8 @@
-use borrow.Author.Rules.{rules}
-use borrow.Author.Tests.{not-true, not-false, le-leb, lt-leb}
-use native.Mathlib.Omega.{arith}
-use mathlib.Core.Path.{◌≡◌, refl, sym, ap, ◌∙◌}
-use mathlib.Core.Bool.{Bool, true, false, ◌&&◌, and-false}
+use mathlib.Core.Path.{◌≡◌}
+use mathlib.Core.Bool.{true}
 use Prim.Native.Nat.{◌≤◌, ◌-◌}
-use lib.Dec.{leb}
-use lib.ListN.{length, length-map}
-use Rattle.sets.specs.Sets.{all}
-use Rattle.rules.specs.Acceptance.{rule_accepted, right_at, right_accepted, every, rules_of, list_accepted}
-use Rattle.rules.specs.declared.lists.RuleList.{RuleList}
-use Rattle.rules.proofs.Every.{every_first, every-next, every-stop}
+use Rattle.rules.specs.Acceptance.{rule_accepted}
+use Rattle.rules.proofs.Every.{every_first}
 use Rattle.rules.proofs.lists.RuleList.is_accepted.Given as goal
 
 abbrev pub invariant-rules : goal.invariant-rules

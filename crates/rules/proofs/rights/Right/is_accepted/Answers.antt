@@ -1,4 +1,3 @@
-use borrow.Author.Rules.{rules}
 use Rattle.rules.proofs.rights.Right.is_accepted.Goals as goal
 
 pub returns-in-Permission : goal.returns-in-Permission
