@@ -1,0 +1,18 @@
+use borrow.Author.Rules.{rules}
+use native.Mathlib.Omega.{arith}
+use mathlib.Core.Path.{◌≡◌, refl, sym, ap, ◌∙◌}
+use mathlib.Core.List.{[], ◌∷◌}
+use mathlib.Core.Logic.{⊎_elim}
+use Prim.Native.Nat.{◌+◌, ◌-◌, ◌≤◌, ◌<◌}
+use lib.ListN.{length, get_or, length-map}
+use Rattle.loans.specs.Loans.{running, no_loan, kept_loans}
+use Rattle.loans.specs.Meant.{meant, pushed, pushed_all}
+use Rattle.loans.specs.declared.Loans.{Loans}
+use Rattle.loans.proofs.Remaining.{remaining, still, turn, none-remaining}
+use Rattle.loans.proofs.Loans.gathered.Given as goal
+
+abbrev pub invariant-loop-i : goal.invariant-loop-i
+invariant-loop-i l = (l.i ≤ 32) × (l.more.count ≤ l.initial.more.count + l.i) × (pushed_all l.more (kept_loans (meant l.which) (remaining l.others l.i)) ≡ pushed_all l.initial.more (kept_loans (meant l.which) (running l.others)))
+
+abbrev pub decreases-loop-i : goal.decreases-loop-i
+decreases-loop-i l = 32 - l.i

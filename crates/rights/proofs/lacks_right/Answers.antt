@@ -1,0 +1,6 @@
+use mathlib.Core.Path.{sym}
+use borrow.Author.Rules.{rules}
+use Rattle.rights.proofs.lacks_right.Goals as goal
+
+pub returns-in-InSession : goal.returns-in-InSession
+returns-in-InSession c = rw (c.in-Permission.is, c.in-InSession.is, ← c.roles_in.ensures, c.is_carried.ensures)

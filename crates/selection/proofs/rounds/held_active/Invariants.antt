@@ -1,0 +1,23 @@
+use mathlib.Core.Path.{◌≡◌, refl, ◌∙◌}
+use mathlib.Core.List.{List}
+use Prim.Native.Nat.{ℕ, ◌≤◌, ◌-◌}
+use native.Mathlib.Omega.{arith}
+use lib.ListN.{length, take, length-replicate}
+use mir.Syntax.{w32}
+use mir.Val.{Fits}
+use Rattle.rules.specs.Families.{word_at, has_role, session_at}
+use Rattle.rules.specs.declared.sessions.Session.{Session}
+use Rattle.steps.specs.Pairs.{sifted}
+use Rattle.selection.proofs.Parts.{length-sifted}
+use Rattle.selection.proofs.Settling.{filled_next, filled-all, held_word}
+use borrow.Author.Rules.{rules}
+use Rattle.selection.proofs.rounds.held_active.Given as goal
+
+abbrev pub held_active : List ℕ → List Session → List ℕ → List ℕ
+held_active held sessions active = sifted 0 (λ i r. has_role held (session_at sessions i).user r) active
+
+abbrev pub invariant-loop-i : goal.invariant-loop-i
+invariant-loop-i l = (l.i ≤ 32) × (length l.kept ≡ 32) × (take l.i l.kept ≡ take l.i (held_active l.held l.sessions l.active))
+
+abbrev pub decreases-loop-i : goal.decreases-loop-i
+decreases-loop-i l = 32 - l.i

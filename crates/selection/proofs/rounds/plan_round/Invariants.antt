@@ -1,0 +1,14 @@
+use mathlib.Core.Path.{◌≡◌, refl, ◌∙◌}
+use Prim.Native.Nat.{ℕ, ◌≤◌, ◌-◌}
+use native.Mathlib.Omega.{arith}
+use lib.ListN.{length, take, length-replicate}
+use Rattle.selection.specs.Ending.{plan_round}
+use Rattle.selection.proofs.Settling.{filled_next, filled-all, round-word, length-round}
+use borrow.Author.Rules.{rules}
+use Rattle.selection.proofs.rounds.plan_round.Given as goal
+
+abbrev pub invariant-loop-i : goal.invariant-loop-i
+invariant-loop-i l = (l.i ≤ 32) × (length l.less ≡ 32) × (take l.i l.less ≡ take l.i (plan_round l.dead l.out l.needs l.active))
+
+abbrev pub decreases-loop-i : goal.decreases-loop-i
+decreases-loop-i l = 32 - l.i

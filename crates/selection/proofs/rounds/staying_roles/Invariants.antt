@@ -1,0 +1,18 @@
+use mathlib.Core.Path.{◌≡◌, refl, ◌∙◌}
+use mathlib.Core.Bool.{not, ◌&&◌}
+use mathlib.Core.Logic.{⊎_elim}
+use Prim.Native.Nat.{◌≤◌, ◌-◌}
+use native.Mathlib.Omega.{arith}
+use Rattle.sets.specs.Sets.{member, subset, set_of}
+use Rattle.sets.proofs.Members.{with-below}
+use Rattle.sets.proofs.Built.{set-of-in, set-of-out}
+use Rattle.rules.specs.Families.{word_at}
+use Rattle.selection.specs.Ending.{staying_roles}
+use borrow.Author.Rules.{rules}
+use Rattle.selection.proofs.rounds.staying_roles.Given as goal
+
+abbrev pub invariant-loop-role : goal.invariant-loop-role
+invariant-loop-role l = (l.role ≤ 32) × (l.staying ≡ set_of l.role (λ r. not (member l.dead r) && subset (word_at l.needs r) l.live))
+
+abbrev pub decreases-loop-role : goal.decreases-loop-role
+decreases-loop-role l = 32 - l.role

@@ -1,0 +1,6 @@
+use mathlib.Core.Path.{refl}
+use borrow.Author.Rules.{rules}
+use Rattle.selection.proofs.selection.by_families.Goals as goal
+
+pub returns : goal.returns
+returns c = rw (c.union-2.ensures, c.union.ensures) refl
