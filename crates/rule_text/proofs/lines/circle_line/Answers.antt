@@ -1,0 +1,6 @@
+use mir.Facts.{to_z-of_z}
+use borrow.Author.Rules.{rules}
+use Rattle.rule_text.proofs.lines.circle_line.Goals as goal
+
+pub returns : goal.returns
+returns c = simp (c.full_line.ensures, c.signed_code-y_code.ensures, c.signed_code-x_code.ensures, to_z-of_z, c.ranges.x, c.ranges.y)
