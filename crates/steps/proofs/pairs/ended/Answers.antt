@@ -1,8 +1,7 @@
 use mathlib.Core.Path.{◌≡◌, refl, ◌∙◌, ap}
-use Prim.Native.Nat.{◌≤◌, ◌*◌, ◌-◌}
 use native.Mathlib.Omega.{arith}
-use lib.ListN.{length, take}
-use Rattle.steps.specs.Pairs.{ended_pairs, pair_count}
+use lib.ListN.{length}
+use Rattle.steps.specs.Pairs.{pair_count}
 use Rattle.steps.proofs.EndedPairs.{ended-next, ended-all}
 use borrow.Author.Rules.{rules}
 use Rattle.steps.proofs.pairs.ended.Goals as goal

@@ -1,10 +1,7 @@
-use mathlib.Core.Path.{◌≡◌, refl, ◌∙◌, ap}
+use mathlib.Core.Path.{◌≡◌}
 use Prim.Native.Nat.{◌≤◌, ◌*◌, ◌-◌}
-use native.Mathlib.Omega.{arith}
-use lib.ListN.{length, take}
+use lib.ListN.{take}
 use Rattle.steps.specs.Pairs.{ended_pairs, pair_count}
-use Rattle.steps.proofs.EndedPairs.{ended-next, ended-all}
-use borrow.Author.Rules.{rules}
 use Rattle.steps.proofs.pairs.ended.Given as goal
 
 abbrev pub invariant-loop-i : goal.invariant-loop-i

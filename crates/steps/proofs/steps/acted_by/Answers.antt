@@ -1,4 +1,3 @@
-use borrow.Author.Rules.{rules}
 use Rattle.steps.proofs.steps.acted_by.Goals as goal
 
 pub returns-in-InSession : goal.returns-in-InSession

@@ -1,4 +1,3 @@
-use borrow.Author.Rules.{rules}
 use mathlib.Core.Path.{ap, ◌∙◌}
 use Rattle.steps.specs.Steps.{acted_by, action_of}
 use Rattle.steps.proofs.steps.Step.action.Goals as goal
