@@ -1,4 +1,3 @@
-use borrow.Author.Rules.{rules}
 use Rattle.rights.proofs.acts_closed.Goals as goal
 
 pub returns-in-InSession : goal.returns-in-InSession

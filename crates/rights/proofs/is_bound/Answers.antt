@@ -1,6 +1,5 @@
 use mathlib.Core.Path.{sym, ◌∙◌}
 use borrow.Author.Tests.{not-true, not-false}
-use borrow.Author.Rules.{rules}
 use Rattle.rights.proofs.is_bound.Goals as goal
 
 pub returns-then-not-is_administrative : goal.returns-then-not-is_administrative

@@ -1,12 +1,12 @@
 use borrow.Author.Rules.{rules}
 use mathlib.Core.Path.{◌≡◌, refl, sym, ap, ◌∙◌}
-use mathlib.Core.Bool.{Bool, false, ◌&&◌}
+use mathlib.Core.Bool.{Bool, ◌&&◌}
 use mathlib.Core.List.{List}
-use Prim.Native.Nat.{ℕ, ◌≤◌, ◌<◌, ◌-◌}
+use Prim.Native.Nat.{ℕ, ◌<◌}
 use native.Mathlib.Omega.{arith}
 use Rattle.sets.specs.Sets.{member, any}
 use Rattle.sets.proofs.Bounded.{any_of, any_next}
-use Rattle.rules.specs.Families.{has_role, permissions_of}
+use Rattle.rules.specs.Families.{has_role}
 use Rattle.rights.specs.Rights.{is_carried}
 use Rattle.rights.proofs.Carrying.{carries-word}
 use Rattle.rights.proofs.is_carried.Invariants.{carried_by}

@@ -1,14 +1,9 @@
-use borrow.Author.Rules.{rules}
-use mathlib.Core.Path.{◌≡◌, refl, sym, ap, ◌∙◌}
+use mathlib.Core.Path.{◌≡◌}
 use mathlib.Core.Bool.{Bool, false, ◌&&◌}
 use mathlib.Core.List.{List}
-use Prim.Native.Nat.{ℕ, ◌≤◌, ◌<◌, ◌-◌}
-use native.Mathlib.Omega.{arith}
+use Prim.Native.Nat.{ℕ, ◌≤◌, ◌-◌}
 use Rattle.sets.specs.Sets.{member, any}
-use Rattle.sets.proofs.Bounded.{any_of, any_next}
-use Rattle.rules.specs.Families.{has_role, permissions_of}
-use Rattle.rights.specs.Rights.{is_carried}
-use Rattle.rights.proofs.Carrying.{carries-word}
+use Rattle.rules.specs.Families.{permissions_of}
 use Rattle.rights.proofs.is_carried.Given as goal
 
 -- role r is one of the set and carries the permission

@@ -1,11 +1,10 @@
-use mathlib.Core.Path.{sym, ap, ◌∙◌}
+use mathlib.Core.Path.{sym, ap}
 use mathlib.Core.Bool.{not}
 use Prim.Native.Nat.{◌≤◌}
 use native.Mathlib.Omega.{arith}
-use lib.ListN.{length, length-map, get_or-eq_default}
+use lib.ListN.{length, get_or-eq_default}
 use Rattle.rules.specs.Families.{closed_session}
 use Rattle.rules.specs.declared.sessions.Session.{Session}
-use borrow.Author.Rules.{rules}
 use Rattle.rights.proofs.is_closed.Goals as goal
 
 pub returns-then-session-ge-SESSIONS : goal.returns-then-session-ge-SESSIONS

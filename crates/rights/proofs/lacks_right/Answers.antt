@@ -1,5 +1,3 @@
-use mathlib.Core.Path.{sym}
-use borrow.Author.Rules.{rules}
 use Rattle.rights.proofs.lacks_right.Goals as goal
 
 pub returns-in-InSession : goal.returns-in-InSession

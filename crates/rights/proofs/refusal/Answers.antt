@@ -1,5 +1,4 @@
 use mathlib.Core.Path.{sym, ◌∙◌}
-use borrow.Author.Rules.{rules}
 use Rattle.rights.proofs.refusal.Goals as goal
 
 pub returns-then-acts_closed : goal.returns-then-acts_closed

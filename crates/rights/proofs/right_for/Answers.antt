@@ -5,7 +5,6 @@ use lib.ListN.{length, get_or-eq_default}
 use Rattle.rules.specs.Acceptance.{unstated}
 use Rattle.rules.specs.declared.rights.RightSlot.{RightSlot}
 use Rattle.steps.specs.Steps.{right_kind}
-use borrow.Author.Rules.{rules}
 use Rattle.rights.proofs.right_for.Goals as goal
 
 pub returns-then-kind-ge-RIGHTS : goal.returns-then-kind-ge-RIGHTS

@@ -2,7 +2,6 @@ use mathlib.Core.Path.{sym}
 use Prim.Native.Nat.{◌≤◌}
 use native.Mathlib.Omega.{arith}
 use lib.ListN.{length, get_or-eq_default}
-use borrow.Author.Rules.{rules}
 use Rattle.rights.proofs.roles_in.Goals as goal
 
 pub returns-then-session-ge-SESSIONS : goal.returns-then-session-ge-SESSIONS
