@@ -1,4 +1,3 @@
-use borrow.Author.Rules.{rules}
 use Rattle.loans.specs.Meant.{meant}
 use Rattle.loans.proofs.is_meant.Goals as goal
 

@@ -1,4 +1,3 @@
-use borrow.Author.Rules.{rules}
 use mathlib.Core.Path.{refl}
 use Rattle.loans.specs.Loans.{key}
 use Rattle.loans.proofs.key_of.Goals as goal

@@ -1,4 +1,3 @@
-use borrow.Author.Rules.{rules}
 use mathlib.Core.Path.{refl}
 use Rattle.loans.specs.Loans.{loan_in_range}
 use Rattle.loans.proofs.loan_in_range.Goals as goal

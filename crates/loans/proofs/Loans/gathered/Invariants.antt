@@ -1,14 +1,8 @@
-use borrow.Author.Rules.{rules}
-use native.Mathlib.Omega.{arith}
-use mathlib.Core.Path.{◌≡◌, refl, sym, ap, ◌∙◌}
-use mathlib.Core.List.{[], ◌∷◌}
-use mathlib.Core.Logic.{⊎_elim}
-use Prim.Native.Nat.{◌+◌, ◌-◌, ◌≤◌, ◌<◌}
-use lib.ListN.{length, get_or, length-map}
-use Rattle.loans.specs.Loans.{running, no_loan, kept_loans}
-use Rattle.loans.specs.Meant.{meant, pushed, pushed_all}
-use Rattle.loans.specs.declared.Loans.{Loans}
-use Rattle.loans.proofs.Remaining.{remaining, still, turn, none-remaining}
+use mathlib.Core.Path.{◌≡◌}
+use Prim.Native.Nat.{◌+◌, ◌-◌, ◌≤◌}
+use Rattle.loans.specs.Loans.{running, kept_loans}
+use Rattle.loans.specs.Meant.{meant, pushed_all}
+use Rattle.loans.proofs.Remaining.{remaining}
 use Rattle.loans.proofs.Loans.gathered.Given as goal
 
 abbrev pub invariant-loop-i : goal.invariant-loop-i

@@ -1,14 +1,12 @@
-use borrow.Author.Rules.{rules}
 use borrow.Author.Tests.{not-true, not-false}
 use native.Mathlib.Omega.{arith}
 use mathlib.Core.Path.{◌≡◌, refl, sym, ◌∙◌}
 use mathlib.Core.Bool.{Bool, ◌&&◌}
 use mathlib.Core.List.{[], ◌∷◌}
-use Prim.Native.Nat.{◌+◌, ◌-◌, ◌<◌}
+use Prim.Native.Nat.{◌+◌, ◌<◌}
 use lib.Dec.{ltb}
-use lib.ListN.{length, get_or, length-map}
-use Rattle.loans.specs.Loans.{running, no_loan, some_loan}
-use Rattle.loans.specs.Meant.{meant}
+use lib.ListN.{length, get_or}
+use Rattle.loans.specs.Loans.{no_loan, some_loan}
 use Rattle.loans.proofs.Remaining.{remaining, still, turn, none-remaining}
 use Rattle.loans.proofs.Loans.has_some.Goals as goal
 use Rattle.loans.proofs.Loans.has_some.Goals.{At-loans, Else-not-i-self, Start, Then-not-i-self}

@@ -1,13 +1,7 @@
-use borrow.Author.Rules.{rules}
-use native.Mathlib.Omega.{arith}
-use mathlib.Core.Path.{◌≡◌, refl, sym, ap, ◌∙◌}
-use mathlib.Core.List.{[], ◌∷◌}
-use mathlib.Core.Logic.{⊎_elim}
-use Prim.Native.Nat.{ℕ, ◌+◌, ◌-◌, ◌<◌}
-use lib.ListN.{length, get_or, set, length-map}
-use Rattle.loans.specs.Loans.{running, no_loan, held_with}
-use Rattle.loans.proofs.Holding.{Holds, held_more, held_same}
-use Rattle.loans.proofs.Remaining.{remaining, still, turn, none-remaining}
+use Prim.Native.Nat.{◌-◌}
+use Rattle.loans.specs.Loans.{running, held_with}
+use Rattle.loans.proofs.Holding.{Holds}
+use Rattle.loans.proofs.Remaining.{remaining}
 use Rattle.loans.proofs.Loans.held.Given as goal
 
 abbrev pub invariant-loop-i : goal.invariant-loop-i

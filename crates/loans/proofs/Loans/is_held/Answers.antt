@@ -5,7 +5,6 @@ use Rattle.rules.specs.Families.{has_role}
 use lib.ListN.{take}
 use Rattle.loans.specs.Loans.{running, held_with}
 use Rattle.loans.proofs.Holding.{held-assigned}
-use borrow.Author.Rules.{rules}
 use Rattle.loans.proofs.Loans.is_held.Goals as goal
 
 pub returns-then-has_role : goal.returns-then-has_role
