@@ -1,7 +1,7 @@
 -- The judgement of a step that selects no rule that reads held is the same whatever is held.
 -- Assumes nothing.
 use mathlib.Core.Path.{◌≡◌, refl, ap, fun_ext}
-use mathlib.Core.Bool.{Bool, true, false, not, ◌||◌, true≢false}
+use mathlib.Core.Bool.{Bool, false, not, ◌||◌, true≢false}
 use mathlib.Core.List.{List}
 use Prim.Native.Nat.{ℕ}
 use Rattle.rules.specs.Families.{view, holds, tested}

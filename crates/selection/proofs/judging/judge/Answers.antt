@@ -1,15 +1,12 @@
 use borrow.Author.Rules.{rules}
 use mathlib.Core.Path.{◌≡◌, refl, sym, ◌∙◌}
-use mathlib.Core.Logic.{⊎_elim}
-use Prim.Native.Nat.{◌≤◌, ◌<◌, ◌-◌}
+use Prim.Native.Nat.{◌≤◌, ◌<◌}
 use native.Mathlib.Omega.{arith}
 use lib.ListN.{length-map}
-use Rattle.rules.specs.Families.{view}
 use Rattle.steps.specs.Lowest.{lowest}
 use Rattle.selection.specs.Selection.{selected_number}
-use Rattle.selection.specs.Choices.{chosen}
 use Rattle.selection.specs.Judging.{judged_of}
-use Rattle.selection.proofs.Judgement.{first_rules, rules-bounded, judged-selected, judged-unselected, judged-small, judged-told}
+use Rattle.selection.proofs.Judgement.{rules-bounded, judged-selected, judged-unselected, judged-small, judged-told}
 use Rattle.selection.proofs.judging.judge.Goals as goal
 use Rattle.selection.proofs.judging.judge.Goals.{Start, else-is_chosen, then-is_chosen}
 

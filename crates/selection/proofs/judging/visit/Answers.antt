@@ -1,7 +1,6 @@
 use mathlib.Core.Path.{sym, ap, ◌∙◌}
 use Rattle.rules.specs.Breach.{is_kept}
 use Rattle.selection.proofs.Judgement.{visited-after, visited-kept, visited-broken}
-use borrow.Author.Rules.{rules}
 use Rattle.selection.proofs.judging.visit.Goals as goal
 
 pub returns-in_default : goal.returns-in_default

@@ -1,13 +1,10 @@
 use mathlib.Core.Path.{◌≡◌, refl, ◌∙◌}
-use mathlib.Core.List.{List}
-use Prim.Native.Nat.{ℕ, ◌≤◌, ◌-◌}
+use Prim.Native.Nat.{ℕ}
 use native.Mathlib.Omega.{arith}
-use lib.ListN.{length, take, length-replicate}
+use lib.ListN.{length, length-replicate}
 use mir.Syntax.{w32}
 use mir.Val.{Fits}
-use Rattle.rules.specs.Families.{word_at, has_role, session_at}
-use Rattle.rules.specs.declared.sessions.Session.{Session}
-use Rattle.steps.specs.Pairs.{sifted}
+use Rattle.rules.specs.Families.{word_at, session_at}
 use Rattle.selection.proofs.Parts.{length-sifted}
 use Rattle.selection.proofs.Settling.{filled_next, filled-all, held_word}
 use borrow.Author.Rules.{rules}

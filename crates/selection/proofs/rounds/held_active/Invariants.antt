@@ -1,16 +1,10 @@
-use mathlib.Core.Path.{◌≡◌, refl, ◌∙◌}
+use mathlib.Core.Path.{◌≡◌}
 use mathlib.Core.List.{List}
 use Prim.Native.Nat.{ℕ, ◌≤◌, ◌-◌}
-use native.Mathlib.Omega.{arith}
-use lib.ListN.{length, take, length-replicate}
-use mir.Syntax.{w32}
-use mir.Val.{Fits}
-use Rattle.rules.specs.Families.{word_at, has_role, session_at}
+use lib.ListN.{length, take}
+use Rattle.rules.specs.Families.{has_role, session_at}
 use Rattle.rules.specs.declared.sessions.Session.{Session}
 use Rattle.steps.specs.Pairs.{sifted}
-use Rattle.selection.proofs.Parts.{length-sifted}
-use Rattle.selection.proofs.Settling.{filled_next, filled-all, held_word}
-use borrow.Author.Rules.{rules}
 use Rattle.selection.proofs.rounds.held_active.Given as goal
 
 abbrev pub held_active : List ℕ → List Session → List ℕ → List ℕ

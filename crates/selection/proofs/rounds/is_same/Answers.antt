@@ -1,8 +1,5 @@
 use mathlib.Core.Path.{◌≡◌, refl, sym, ◌∙◌}
-use Prim.Native.Nat.{◌≤◌, ◌-◌}
 use native.Mathlib.Omega.{arith}
-use lib.ListN.{drop}
-use Rattle.selection.specs.Ending.{same_lists}
 use Rattle.selection.proofs.Settling.{same_next, same_stop, same_end}
 use borrow.Author.Rules.{rules}
 use Rattle.selection.proofs.rounds.is_same.Goals as goal

@@ -1,10 +1,7 @@
-use mathlib.Core.Path.{◌≡◌, refl, sym, ◌∙◌}
+use mathlib.Core.Path.{◌≡◌}
 use Prim.Native.Nat.{◌≤◌, ◌-◌}
-use native.Mathlib.Omega.{arith}
 use lib.ListN.{drop}
 use Rattle.selection.specs.Ending.{same_lists}
-use Rattle.selection.proofs.Settling.{same_next, same_stop, same_end}
-use borrow.Author.Rules.{rules}
 use Rattle.selection.proofs.rounds.is_same.Given as goal
 
 abbrev pub invariant-sessions : goal.invariant-sessions

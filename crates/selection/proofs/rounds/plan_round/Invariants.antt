@@ -1,10 +1,7 @@
-use mathlib.Core.Path.{◌≡◌, refl, ◌∙◌}
-use Prim.Native.Nat.{ℕ, ◌≤◌, ◌-◌}
-use native.Mathlib.Omega.{arith}
-use lib.ListN.{length, take, length-replicate}
+use mathlib.Core.Path.{◌≡◌}
+use Prim.Native.Nat.{◌≤◌, ◌-◌}
+use lib.ListN.{length, take}
 use Rattle.selection.specs.Ending.{plan_round}
-use Rattle.selection.proofs.Settling.{filled_next, filled-all, round-word, length-round}
-use borrow.Author.Rules.{rules}
 use Rattle.selection.proofs.rounds.plan_round.Given as goal
 
 abbrev pub invariant-loop-i : goal.invariant-loop-i

@@ -1,12 +1,8 @@
-use mathlib.Core.Path.{◌≡◌, refl, sym, ◌∙◌}
-use Prim.Native.Nat.{suc}
-use lib.ListN.{length}
+use mathlib.Core.Path.{refl, sym, ◌∙◌}
 use mir.Syntax.{w32}
 use mir.Val.{Fits}
 use Rattle.rules.specs.Families.{word_at}
-use Rattle.steps.specs.Pairs.{pair_count}
-use Rattle.selection.specs.Ending.{settled, plan_round, plan_settled}
-use Rattle.selection.proofs.Parts.{HasRoles}
+use Rattle.selection.specs.Ending.{plan_settled}
 use Rattle.selection.proofs.Settling.{small-roles, turn-roles, turn_end, turn-less, turn-next}
 use borrow.Author.Rules.{rules}
 use Rattle.selection.proofs.rounds.plan_settled.Goals as goal

@@ -1,12 +1,8 @@
 use mathlib.Core.Path.{◌≡◌, refl, ◌∙◌}
-use mathlib.Core.Bool.{not, ◌&&◌}
-use mathlib.Core.Logic.{⊎_elim}
-use Prim.Native.Nat.{◌≤◌, ◌-◌}
 use native.Mathlib.Omega.{arith}
-use Rattle.sets.specs.Sets.{member, subset, set_of}
+use Rattle.sets.specs.Sets.{set_of}
 use Rattle.sets.proofs.Members.{with-below}
 use Rattle.sets.proofs.Built.{set-of-in, set-of-out}
-use Rattle.rules.specs.Families.{word_at}
 use Rattle.selection.specs.Ending.{staying_roles}
 use borrow.Author.Rules.{rules}
 use Rattle.selection.proofs.rounds.staying_roles.Goals as goal

@@ -1,6 +1,5 @@
 use Rattle.selection.specs.Selection.{selects}
 use Rattle.selection.proofs.Choosing.{none-chosen, assign-chosen, withdraw-chosen, grant-chosen, activate-chosen, deactivate-chosen, access-chosen, close-chosen, move-chosen, lost-chosen, clock-chosen, lend-chosen, recall-chosen, chosen-told}
-use borrow.Author.Rules.{rules}
 use Rattle.selection.proofs.selection.choice_of.Goals as goal
 
 pub returns-in-Malformed : goal.returns-in-Malformed

@@ -1,7 +1,6 @@
 use mathlib.Core.Path.{refl, sym, ◌∙◌}
 use borrow.Author.Tests.{not-true, not-false}
 use Rattle.selection.specs.Choices.{chosen}
-use borrow.Author.Rules.{rules}
 use Rattle.selection.proofs.selection.is_chosen.Goals as goal
 
 pub returns-then-not-member : goal.returns-then-not-member

@@ -1,5 +1,4 @@
 use mathlib.Core.Path.{◌∙◌}
-use borrow.Author.Rules.{rules}
 use Rattle.selection.proofs.selection.selects.Goals as goal
 
 pub returns : goal.returns
