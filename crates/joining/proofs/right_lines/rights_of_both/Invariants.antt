@@ -1,0 +1,11 @@
+use Prim.Native.Nat.{◌-◌}
+use native.Mathlib.Omega.{arith}
+use Rattle.joining.proofs.Rights.{Filled, filled-start, filled-turn, filled-end}
+use borrow.Author.Rules.{rules}
+use Rattle.joining.proofs.right_lines.rights_of_both.Given as goal
+
+abbrev pub invariant-loop-kind : goal.invariant-loop-kind
+invariant-loop-kind l = Filled l.first l.second l.list l.kind
+
+abbrev pub decreases-loop-kind : goal.decreases-loop-kind
+decreases-loop-kind l = 6 - l.kind

@@ -1,0 +1,17 @@
+use mathlib.Core.Path.{◌≡◌, refl, sym, ◌∙◌}
+use Prim.Native.Nat.{◌-◌, ◌≤◌}
+use native.Mathlib.Omega.{arith}
+use borrow.Author.Tests.{not-true, not-false}
+use Rattle.rules.specs.Acceptance.{right_at}
+use Rattle.rules.specs.Breach.{first_broken}
+use Rattle.rules.specs.declared.tests.Tested.TheVariants.{Kept}
+use Rattle.rules.proofs.Breach.{first_more, first_found}
+use Rattle.joining.specs.Joining.{rights_agree}
+use borrow.Author.Rules.{rules}
+use Rattle.joining.proofs.right_lines.test_rights.Given as goal
+
+abbrev pub invariant-kinds : goal.invariant-kinds
+invariant-kinds l = (l.kind ≤ 6) × (first_broken l.kind (λ k. rights_agree (right_at l.first k) (right_at l.second k)) ≡ Kept)
+
+abbrev pub decreases-kinds : goal.decreases-kinds
+decreases-kinds l = 6 - l.kind
