@@ -1,0 +1,11 @@
+use Prim.Native.Nat.{◌≤◌}
+use native.Mathlib.Omega.{arith}
+use borrow.Author.Rules.{rules}
+use Rattle.step_text.proofs.Batching.{Reading, reading-start, reading-few, reading-fits, reading-less, reading-turn, reading-stop, reading-end}
+use Rattle.step_text.proofs.batches.read_batch.Given as goal
+
+abbrev pub invariant-loop-count : goal.invariant-loop-count
+invariant-loop-count l = Reading l.text l.steps l.rest l.count l.length
+
+abbrev pub decreases-loop-count : goal.decreases-loop-count
+decreases-loop-count l = lib.ListN.length l.rest

@@ -1,0 +1,13 @@
+use Prim.Native.Nat.{◌≤◌}
+use native.Mathlib.Omega.{arith}
+use lib.ListN.{length}
+use borrow.Author.Rules.{rules}
+use Rattle.step_text.proofs.Stepping.{Answering, answers-start, answers-end}
+use Rattle.step_text.proofs.Batching.{batch-stop, batch-fits, batch-less, batch-turn}
+use Rattle.step_text.proofs.running.put_answers.Given as goal
+
+abbrev pub invariant-loop-rest : goal.invariant-loop-rest
+invariant-loop-rest l = Answering l.list l.initial.ran.state l.text l.initial.out l.at l.out l.ran.state l.rest l.place
+
+abbrev pub decreases-loop-rest : goal.decreases-loop-rest
+decreases-loop-rest l = length l.rest
