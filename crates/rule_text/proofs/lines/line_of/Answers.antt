@@ -1,4 +1,3 @@
-use borrow.Author.Rules.{rules}
 use Rattle.rule_text.specs.Lines.{line_of}
 use Rattle.rule_text.proofs.lines.line_of.Goals as goal
 

@@ -1,7 +1,6 @@
 use mathlib.Core.Path.{◌≡◌, sym, ◌∙◌}
 use Prim.Native.Nat.{◌≤◌}
 use native.Mathlib.Omega.{arith}
-use borrow.Author.Rules.{rules}
 use Rattle.rule_text.specs.Lines.{rule_of_form}
 use Rattle.rule_text.proofs.Values.{past-forms}
 use Rattle.rule_text.proofs.lines.rule_of.Goals as goal

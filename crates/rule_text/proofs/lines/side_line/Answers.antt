@@ -1,4 +1,3 @@
-use borrow.Author.Rules.{rules}
 use Rattle.places.proofs.Signed.{read_back}
 use Rattle.rule_text.specs.Lines.{line_of}
 use Rattle.rule_text.proofs.lines.side_line.Goals as goal

@@ -1,4 +1,3 @@
-use borrow.Author.Rules.{rules}
 use Rattle.rule_text.specs.Lines.{line_of}
 use Rattle.rule_text.proofs.lines.term_line.Goals as goal
 

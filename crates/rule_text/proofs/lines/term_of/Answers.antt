@@ -1,6 +1,5 @@
 use mathlib.Core.Path.{◌≡◌}
 use native.Mathlib.Omega.{arith}
-use borrow.Author.Rules.{rules}
 use Rattle.rule_text.specs.Lines.{rule_of_form}
 use Rattle.rule_text.proofs.lines.term_of.Goals as goal
 

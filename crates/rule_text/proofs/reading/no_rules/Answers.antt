@@ -1,4 +1,3 @@
-use borrow.Author.Rules.{rules}
 use Rattle.rule_text.specs.Reading.{unused_slots, no_rights, list_of}
 use Rattle.rule_text.proofs.reading.no_rules.Goals as goal
 

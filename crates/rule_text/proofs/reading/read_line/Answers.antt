@@ -1,7 +1,6 @@
 use mathlib.Core.Path.{◌≡◌, ◌∙◌}
 use native.Mathlib.Omega.{arith}
 use borrow.Author.Tests.{eq-eqb, ne_eqb, le-leb, lt-leb}
-use borrow.Author.Rules.{rules}
 use Rattle.forms.specs.Tables.{found, form_at}
 use Rattle.forms.specs.Forms.{all_in_range}
 use Rattle.forms.proofs.Index.{index-line, likely-found}

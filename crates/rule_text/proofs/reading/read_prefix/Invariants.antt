@@ -1,10 +1,6 @@
 use Prim.Native.Nat.{◌-◌}
-use native.Mathlib.Omega.{arith}
-use borrow.Author.Rules.{rules}
-use Rattle.rule_text.specs.Reading.{read_line, read_lines, no_rights, prefix_of}
-use Rattle.rule_text.proofs.Lists.{own-language}
-use Rattle.rule_text.proofs.LineLoop.{Inv, fits, small, turn, stop, end}
-use Rattle.rule_text.proofs.Prefixes.{rights-within, lines-most, start}
+use Rattle.rule_text.specs.Reading.{read_line, read_lines, prefix_of}
+use Rattle.rule_text.proofs.LineLoop.{Inv}
 use Rattle.rule_text.proofs.reading.read_prefix.Given as goal
 
 abbrev pub invariant-loop-rest : goal.invariant-loop-rest

@@ -1,4 +1,3 @@
-use borrow.Author.Rules.{rules}
 use Rattle.rule_text.proofs.Loaded.{load-bad, load-whole}
 use Rattle.rule_text.proofs.reading.read_rules.Goals as goal
 

@@ -1,4 +1,3 @@
-use borrow.Author.Rules.{rules}
 use Rattle.rule_text.specs.Reading.{rule_read}
 use Rattle.rule_text.proofs.reading.rule_read.Goals as goal
 

@@ -1,7 +1,5 @@
-use Prim.Native.Nat.{◌-◌}
 use native.Mathlib.Omega.{arith}
-use borrow.Author.Rules.{rules}
-use Rattle.rule_text.proofs.RightLoop.{Inv, start, fits, turn, end}
+use Rattle.rule_text.proofs.RightLoop.{start, fits, turn, end}
 use Rattle.rule_text.proofs.rights.read_rights.Goals as goal
 
 pub loop-kind-init : goal.loop-kind-init

@@ -1,7 +1,5 @@
 use Prim.Native.Nat.{◌-◌}
-use native.Mathlib.Omega.{arith}
-use borrow.Author.Rules.{rules}
-use Rattle.rule_text.proofs.RightLoop.{Inv, start, fits, turn, end}
+use Rattle.rule_text.proofs.RightLoop.{Inv}
 use Rattle.rule_text.proofs.rights.read_rights.Given as goal
 
 abbrev pub invariant-loop-kind : goal.invariant-loop-kind

@@ -1,5 +1,4 @@
 use native.Mathlib.Omega.{arith}
-use borrow.Author.Rules.{rules}
 use Rattle.forms.proofs.Puts.{then}
 use Rattle.rule_text.proofs.writing.put_list.Goals as goal
 

@@ -1,6 +1,5 @@
-use mathlib.Core.Path.{◌≡◌, sym, ap}
+use mathlib.Core.Path.{sym, ap}
 use native.Mathlib.Omega.{arith}
-use borrow.Author.Rules.{rules}
 use Rattle.forms.proofs.Puts.{like, nothing_written}
 use Rattle.rule_text.specs.Lines.{line_text, right_text}
 use Rattle.rule_text.proofs.writing.put_right.Goals as goal

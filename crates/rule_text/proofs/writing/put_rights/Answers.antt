@@ -1,9 +1,8 @@
 use mathlib.Core.Path.{◌≡◌}
-use Prim.Native.Nat.{◌-◌}
 use native.Mathlib.Omega.{arith}
 use lib.ListN.{length}
 use borrow.Author.Rules.{rules}
-use Rattle.rule_text.proofs.Texts.{RightsInv, rights-start, rights-turn, rights-written, rights-size}
+use Rattle.rule_text.proofs.Texts.{rights-start, rights-turn, rights-written, rights-size}
 use Rattle.rule_text.proofs.writing.put_rights.Goals as goal
 
 pub loop-kind-init : goal.loop-kind-init

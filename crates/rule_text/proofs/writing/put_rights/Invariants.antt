@@ -1,9 +1,5 @@
-use mathlib.Core.Path.{◌≡◌}
 use Prim.Native.Nat.{◌-◌}
-use native.Mathlib.Omega.{arith}
-use lib.ListN.{length}
-use borrow.Author.Rules.{rules}
-use Rattle.rule_text.proofs.Texts.{RightsInv, rights-start, rights-turn, rights-written, rights-size}
+use Rattle.rule_text.proofs.Texts.{RightsInv}
 use Rattle.rule_text.proofs.writing.put_rights.Given as goal
 
 abbrev pub invariant-loop-kind : goal.invariant-loop-kind

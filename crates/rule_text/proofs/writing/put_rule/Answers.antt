@@ -1,4 +1,3 @@
-use borrow.Author.Rules.{rules}
 use Rattle.rule_text.specs.Lines.{rule_text}
 use Rattle.rule_text.proofs.writing.put_rule.Goals as goal
 

@@ -1,10 +1,8 @@
-use mathlib.Core.Path.{◌≡◌, sym, ◌∙◌}
-use Prim.Native.Nat.{◌-◌}
+use mathlib.Core.Path.{◌≡◌}
 use native.Mathlib.Omega.{arith}
-use lib.ListN.{length, length-map}
-use borrow.Author.Rules.{rules}
+use lib.ListN.{length}
 use Rattle.rule_text.specs.Lines.{rule_text}
-use Rattle.rule_text.proofs.Texts.{Inv, start, turn, end, same_size}
+use Rattle.rule_text.proofs.Texts.{start, turn, end, same_size}
 use Rattle.rule_text.proofs.writing.put_rules.Goals as goal
 
 pub loop-i-init : goal.loop-i-init

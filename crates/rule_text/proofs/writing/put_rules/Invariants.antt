@@ -1,10 +1,6 @@
-use mathlib.Core.Path.{◌≡◌, sym, ◌∙◌}
 use Prim.Native.Nat.{◌-◌}
-use native.Mathlib.Omega.{arith}
-use lib.ListN.{length, length-map}
-use borrow.Author.Rules.{rules}
 use Rattle.rule_text.specs.Lines.{rule_text}
-use Rattle.rule_text.proofs.Texts.{Inv, start, turn, end, same_size}
+use Rattle.rule_text.proofs.Texts.{Inv}
 use Rattle.rule_text.proofs.writing.put_rules.Given as goal
 
 abbrev pub invariant-loop-i : goal.invariant-loop-i
