@@ -1,7 +1,6 @@
 use mathlib.Core.Path.{sym, ◌∙◌}
 use Prim.Native.Nat.{◌≤◌}
 use native.Mathlib.Omega.{arith}
-use borrow.Author.Rules.{rules}
 use Rattle.policy_text.specs.Lines.{rule_of_policy}
 use Rattle.policy_text.proofs.Table.{past-forms}
 use Rattle.policy_text.proofs.lines.rule_of.Goals as goal

@@ -1,7 +1,5 @@
-use Prim.Native.Nat.{◌-◌}
 use native.Mathlib.Omega.{arith}
-use borrow.Author.Rules.{rules}
-use Rattle.policy_text.proofs.Loop.{Read, begin, within, room, next, refused, whole}
+use Rattle.policy_text.proofs.Loop.{begin, within, room, next, refused, whole}
 use Rattle.policy_text.proofs.reading.read_policies.Goals as goal
 
 pub loop-rest-init : goal.loop-rest-init

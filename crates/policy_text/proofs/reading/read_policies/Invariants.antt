@@ -1,7 +1,5 @@
 use Prim.Native.Nat.{◌-◌}
-use native.Mathlib.Omega.{arith}
-use borrow.Author.Rules.{rules}
-use Rattle.policy_text.proofs.Loop.{Read, begin, within, room, next, refused, whole}
+use Rattle.policy_text.proofs.Loop.{Read}
 use Rattle.policy_text.proofs.reading.read_policies.Given as goal
 
 abbrev pub invariant-loop-rest : goal.invariant-loop-rest

@@ -1,6 +1,5 @@
 use mathlib.Core.Path.{◌≡◌}
 use borrow.Author.Tests.{eq-eqb, ne_eqb}
-use borrow.Author.Rules.{rules}
 use Rattle.forms.specs.Tables.{found, form_at}
 use Rattle.forms.specs.Forms.{all_in_range}
 use Rattle.forms.proofs.Index.{index-line}

@@ -1,4 +1,3 @@
-use borrow.Author.Rules.{rules}
 use Rattle.policy_text.specs.Lines.{has_policy}
 use Rattle.policy_text.proofs.writing.has_policy.Goals as goal
 

@@ -1,16 +1,12 @@
 use mathlib.Core.Path.{◌≡◌, refl, sym}
-use mathlib.Core.Bool.{Bool, true, false}
-use mathlib.Core.List.{List}
-use Prim.Native.Nat.{ℕ, ◌-◌, ◌≤◌, ◌<◌}
+use mathlib.Core.Bool.{true, false}
+use Prim.Native.Nat.{ℕ, ◌≤◌, ◌<◌}
 use native.Mathlib.Omega.{arith}
 use lib.Dec.{ltb}
 use borrow.Author.Tests.{lt-ltb, le-ltb}
 use borrow.Author.Rules.{rules}
 use Rattle.sets.specs.Sets.{any}
 use Rattle.sets.proofs.Bounded.{any_of, any_next}
-use Rattle.rules.specs.Acceptance.{right_at}
-use Rattle.rules.specs.declared.rights.RightSlot.{RightSlot}
-use Rattle.rule_text.specs.Lines.{line_count}
 use Rattle.policy_text.specs.Writing.{has_right_line}
 use Rattle.policy_text.proofs.writing.has_right_line.Invariants.{has_line}
 use Rattle.policy_text.proofs.writing.has_right_line.Goals as goal

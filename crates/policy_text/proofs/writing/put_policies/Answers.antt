@@ -1,9 +1,7 @@
-use mathlib.Core.Path.{◌≡◌, sym, ◌∙◌}
-use Prim.Native.Nat.{◌-◌}
+use mathlib.Core.Path.{◌≡◌}
 use native.Mathlib.Omega.{arith}
-use lib.ListN.{length, length-map}
-use borrow.Author.Rules.{rules}
-use Rattle.rule_text.proofs.Texts.{Inv, start, turn, end, same_size}
+use lib.ListN.{length}
+use Rattle.rule_text.proofs.Texts.{start, turn, end, same_size}
 use Rattle.policy_text.specs.Lines.{policy_text}
 use Rattle.policy_text.proofs.writing.put_policies.Goals as goal
 

@@ -1,9 +1,5 @@
-use mathlib.Core.Path.{◌≡◌, sym, ◌∙◌}
 use Prim.Native.Nat.{◌-◌}
-use native.Mathlib.Omega.{arith}
-use lib.ListN.{length, length-map}
-use borrow.Author.Rules.{rules}
-use Rattle.rule_text.proofs.Texts.{Inv, start, turn, end, same_size}
+use Rattle.rule_text.proofs.Texts.{Inv}
 use Rattle.policy_text.specs.Lines.{policy_text}
 use Rattle.policy_text.proofs.writing.put_policies.Given as goal
 

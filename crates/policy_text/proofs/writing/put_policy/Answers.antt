@@ -1,7 +1,6 @@
 use mathlib.Core.Path.{ap, sym, ◌∙◌}
 use mathlib.Core.List.{List}
 use Prim.Native.Nat.{ℕ}
-use borrow.Author.Rules.{rules}
 use Rattle.forms.specs.Forms.{fill}
 use Rattle.forms.specs.Tables.{form_at}
 use Rattle.forms.proofs.Puts.{like}

@@ -1,10 +1,8 @@
 use mathlib.Core.Path.{◌≡◌, sym, ◌∙◌}
-use Prim.Native.Nat.{◌-◌}
 use native.Mathlib.Omega.{arith}
-use lib.ListN.{length, length-map}
+use lib.ListN.{length}
 use borrow.Author.Tests.{not-true, not-false}
-use borrow.Author.Rules.{rules}
-use Rattle.policy_text.proofs.Missing.{Passed, passed_start, passed-next, passed-all, passed-found}
+use Rattle.policy_text.proofs.Missing.{passed_start, passed-next, passed-all, passed-found}
 use Rattle.policy_text.proofs.writing.rule_without.Goals as goal
 use Rattle.policy_text.proofs.writing.rule_without.Goals.{Start}
 

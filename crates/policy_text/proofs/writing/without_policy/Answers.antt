@@ -1,4 +1,3 @@
-use borrow.Author.Rules.{rules}
 use Rattle.policy_text.specs.Writing.{without_policy}
 use Rattle.policy_text.proofs.writing.without_policy.Goals as goal
 

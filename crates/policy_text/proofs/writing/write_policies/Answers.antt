@@ -3,7 +3,6 @@ use mathlib.Core.Bool.{true, false}
 use Prim.Native.Nat.{◌≤◌}
 use lib.ListN.{length}
 use borrow.Author.Tests.{not-true, not-false}
-use borrow.Author.Rules.{rules}
 use Rattle.forms.specs.Writing.{last_place}
 use Rattle.forms.proofs.Puts.{measure, measured, placed}
 use Rattle.rules.specs.Acceptance.{list_accepted}
