@@ -1,0 +1,14 @@
+use native.Mathlib.Omega.{arith}
+use Prim.Native.Nat.{◌*◌, ◌-◌, ◌≤◌}
+use mathlib.Core.Path.{◌≡◌}
+use lib.ListN.{length}
+use Rattle.state_text.proofs.LineSizes.{width-most}
+use Rattle.state_text.proofs.Measures.{RowsTill, sum-start, rows-turn}
+use borrow.Author.Rules.{rules}
+use Rattle.state_text.proofs.measuring.rows_length.Given as goal
+
+abbrev pub invariant-loop-i : goal.invariant-loop-i
+invariant-loop-i l = (l.i ≤ length l.words) × (l.total ≤ l.i * 2048) × RowsTill l.bytes l.words l.total l.i
+
+abbrev pub decreases-loop-i : goal.decreases-loop-i
+decreases-loop-i l = length l.words - l.i

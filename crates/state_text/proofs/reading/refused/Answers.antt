@@ -1,0 +1,5 @@
+use borrow.Author.Rules.{rules}
+use Rattle.state_text.proofs.reading.refused.Goals as goal
+
+pub returns : goal.returns
+returns c = rw c.fresh.ensures

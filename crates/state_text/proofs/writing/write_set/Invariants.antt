@@ -1,0 +1,12 @@
+use Prim.Native.Nat.{◌≤◌, ◌-◌}
+use native.Mathlib.Omega.{arith}
+use Rattle.state_text.specs.Parts.{member_lines, set_lines}
+use Rattle.state_text.proofs.Writes.{Loop, start, turn, same, end, empty-set}
+use borrow.Author.Rules.{rules}
+use Rattle.state_text.proofs.writing.write_set.Given as goal
+
+abbrev pub invariant-loop-j : goal.invariant-loop-j
+invariant-loop-j l = Loop (member_lines l.form l.first l.second l.set) l.initial.out l.at l.out l.place l.j × (l.j ≤ 64)
+
+abbrev pub decreases-loop-j : goal.decreases-loop-j
+decreases-loop-j l = 64 - l.j
