@@ -14,7 +14,7 @@ use Rattle.rules.specs.declared.lists.RuleList.{RuleList}
 use Rattle.steps.specs.declared.lowest.Lowest.{Lowest}
 use Rattle.steps.specs.declared.lowest.Lowest.TheVariants.{Unbroken, BrokenAt}
 use Rattle.steps.specs.Lowest.{lowest}
-use Rattle.steps.specs.Pairs.{ended_pairs, pair_count, Part}
+use Rattle.steps.specs.Pairs.{ended_pairs, Part}
 use Rattle.selection.specs.Selection.{selects, selected_number}
 use Rattle.steps.specs.declared.actions.Action.{Action}
 use Rattle.enforcement.specs.States.{fresh, rule_holds, state_accepted}

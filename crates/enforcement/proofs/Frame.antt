@@ -10,7 +10,7 @@ use native.Mathlib.Omega.{arith}
 use lib.Dec.{eqb, ltb, leb}
 use lib.ListN.{length, set, length-set}
 use borrow.Author.Tests.{eq-eqb, eqb-true, ltb-true}
-use Rattle.sets.specs.Sets.{member, is_empty, all}
+use Rattle.sets.specs.Sets.{member, is_empty}
 use Rattle.sets.proofs.Booleans.{clash, both, both_true, left-true, right-true, left_or, right_or, of_or, neither, or-both, of-not-both}
 use Rattle.sets.proofs.Bounded.{of-all}
 use Rattle.sets.proofs.Members.{member-empty}
@@ -25,7 +25,6 @@ use Rattle.steps.specs.Pairs.{Part}
 use Rattle.selection.specs.Selection.{is_before, is_needs, is_during, is_at, has_first, selects}
 use Rattle.steps.specs.declared.actions.Action.{Action}
 use Rattle.steps.specs.declared.actions.Action.TheVariants.{Malformed, Assign, Withdraw, Grant, Take, Open, Activate, Deactivate, Access, Finish, Close, Move, Lost, Clock, Lend, Recall}
-use Rattle.steps.specs.Steps.{is_time}
 use Rattle.loans.specs.Loans.{kept_loans, is_named, runs_at, loan_of, stored, inserted, accepted_from, is_borrowed, held_with}
 use Rattle.loans.specs.declared.Loan.{Loan}
 use Rattle.loans.proofs.Storing.{running-stored}
@@ -34,7 +33,7 @@ use Rattle.loans.proofs.Holding.{held-assigned, held-means}
 use Rattle.loans.proofs.Order.{kept-accepted}
 use Rattle.enforcement.specs.States.{assigned_role, loans_of, borrowed_role, held_roles, holds_role, carries, is_open, user_of, position_of, active_role, did, rule_holds, is_unknown, session_accepted, state_accepted}
 use Rattle.steps.specs.Steps.{is_event}
-use Rattle.enforcement.specs.Steps.{Checked, passes, refuse_if, check, with_loans, with_sessions, with_active, with_time, put, take_out, emptied, session, placed, loans_left, unheld_closed, target}
+use Rattle.enforcement.specs.Steps.{passes, check, with_loans, with_sessions, with_active, with_time, put, take_out, emptied, session, placed, loans_left, unheld_closed, target}
 use Rattle.enforcement.specs.Reached.{Accepted}
 use Rattle.enforcement.specs.declared.states.State.{State}
 use Rattle.enforcement.proofs.Words.{has-put, has-take-out, has-set-empty, word-emptied, session-set}

@@ -11,9 +11,9 @@ use lib.Dec.{eqb, ltb}
 use lib.ListN.{length, get_or, set, replicate, length-set, length-replicate}
 use lib.Pow.{pow_pos}
 use lib.Seq.{get_or-set_same, get_or-set_other, set-get_or}
-use borrow.Author.Tests.{eqb-true, eq-eqb, lt-ltb, le-leb, not-false}
+use borrow.Author.Tests.{eqb-true, eq-eqb, lt-ltb, not-false}
 use Rattle.sets.specs.Sets.{member, with, without, all, count}
-use Rattle.sets.proofs.Booleans.{clash, both_true, left-true, right-true, both, left_or, right_or, of_or, neither, of-not-both, not_so}
+use Rattle.sets.proofs.Booleans.{clash, both_true, left-true, right-true, left_or, right_or, of_or, neither, of-not-both, not_so}
 use Rattle.sets.proofs.Bounded.{all_of, of-all, any_of}
 use Rattle.sets.proofs.Counting.{count_none}
 use Rattle.sets.proofs.Members.{member-empty, member-with, member-without}

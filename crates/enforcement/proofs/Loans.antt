@@ -1,6 +1,6 @@
 -- The loans of a state that 40 does not refuse, and the roles held with them.
 -- Assumes nothing.
-use mathlib.Core.Path.{◌≡◌, refl, sym, ap, ◌∙◌}
+use mathlib.Core.Path.{◌≡◌, sym, ap, ◌∙◌}
 use mathlib.Core.Bool.{Bool, true, false, not, ◌&&◌, ◌||◌}
 use mathlib.Core.Logic.{◌↔◌, ◌⊎◌, ⊎_elim}
 use mathlib.Core.List.{List, Memᴰ}
@@ -8,8 +8,8 @@ use Prim.Native.Nat.{ℕ, suc, ◌≤◌, ◌<◌}
 use native.Mathlib.Nat.{le_trans, zero-add, min-le_left}
 use native.Mathlib.Omega.{arith}
 use lib.Dec.{eqb, ltb, leb}
-use lib.ListN.{length, take, length-take}
-use borrow.Author.Tests.{eqb-true, lt-ltb, le-leb, leb-true, leb-false, not-false}
+use lib.ListN.{length, length-take}
+use borrow.Author.Tests.{le-leb, leb-true, leb-false, not-false}
 use Rattle.sets.specs.Sets.{all}
 use Rattle.sets.proofs.Booleans.{both, both_true, left-true, right-true, left_or, right_or, of_or, clash, not_so}
 use Rattle.rules.specs.Families.{word_at, has_role, session_at}

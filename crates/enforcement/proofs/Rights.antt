@@ -12,12 +12,10 @@ use borrow.Author.Tests.{lt-ltb}
 use Rattle.sets.specs.Sets.{all}
 use Rattle.sets.proofs.Booleans.{both, both_true, clash, not_so}
 use Rattle.rules.specs.Acceptance.{unstated, right_at, right_accepted, every, rule_accepted, rules_of, list_accepted}
-use Rattle.rules.specs.declared.rights.Right.{Right}
 use Rattle.rules.specs.declared.rights.Right.TheVariants.{Unstated}
 use Rattle.rules.specs.declared.rights.RightSlot.{RightSlot}
 use Rattle.rules.specs.declared.lists.RuleList.{RuleList}
 use Rattle.steps.specs.Steps.{of_kind, is_administrative, action_of, with_by}
-use Rattle.steps.specs.declared.acting.Acting.{Acting}
 use Rattle.steps.specs.declared.acting.Acting.TheVariants.{Nobody, InSession}
 use Rattle.steps.specs.declared.actions.Action.{Action}
 use Rattle.steps.specs.declared.actions.Action.TheVariants.{Malformed, Assign, Withdraw, Grant, Take, Open, Activate, Deactivate, Access, Finish, Close, Move, Lost, Clock, Lend, Recall}

@@ -4,16 +4,15 @@
 use Prim.Native.Nat.{ℕ, ◌<◌}
 use native.Mathlib.Omega.{arith}
 use mathlib.Core.Path.{◌≡◌, refl, sym, ap, subst, ◌∙◌}
-use mathlib.Core.Bool.{Bool, true, false, not, cond, ◌&&◌, ◌||◌}
+use mathlib.Core.Bool.{Bool, true, false, not, cond, ◌&&◌}
 use mathlib.Core.Logic.{⊎_elim}
-use mathlib.Core.List.{List, [], ◌∷◌, Memᴰ}
+use mathlib.Core.List.{List, [], ◌∷◌}
 use lib.Dec.{eqb}
 use lib.ListN.{length}
 use borrow.Author.Tests.{eqb-true}
 use Rattle.sets.proofs.Booleans.{both, clash, not_so, left_or, right_or, of_or}
 use Rattle.sets.proofs.Bounded.{of-any}
 use Rattle.rules.specs.Acceptance.{right_at, list_accepted}
-use Rattle.rules.specs.declared.rights.Right.TheVariants.{Permission}
 use Rattle.rules.specs.declared.lists.RuleList.{RuleList}
 use Rattle.steps.specs.Steps.{is_administrative, action_of}
 use Rattle.steps.specs.declared.acting.Acting.{Acting}
@@ -21,18 +20,16 @@ use Rattle.steps.specs.declared.acting.Acting.TheVariants.{Nobody, InSession}
 use Rattle.steps.specs.declared.actions.Action.{Action}
 use Rattle.steps.specs.declared.actions.Action.TheVariants.{Malformed, Assign, Withdraw, Grant, Take, Open, Activate, Deactivate, Access, Finish, Close, Move, Lost, Clock, Lend, Recall}
 use Rattle.steps.specs.declared.steps.Step.{Step}
-use Rattle.loans.specs.declared.Loan.{Loan}
 use Rattle.loans.proofs.Keeping.{some-means, some_of}
 use Rattle.rights.specs.Rights.{acts_closed, is_carried, lacks_right}
-use Rattle.enforcement.specs.States.{assigned_role, borrowed_role, loans_of, holds_role, carries, active_role, state_accepted}
+use Rattle.enforcement.specs.States.{assigned_role, borrowed_role, loans_of, holds_role, carries, active_role}
 use Rattle.enforcement.specs.Steps.{passes, check, right_lacking, check_by, target, unheld_closed, with_active}
 use Rattle.enforcement.specs.Gate.{step_of, run_of}
 use Rattle.enforcement.specs.Runs.{refusal_of, last_state, ran_of}
 use Rattle.enforcement.specs.Reached.{Typed, Accepted, Held, Good, Reached}
-use Rattle.enforcement.specs.Claims.{Along, end, then, TakesTarget}
+use Rattle.enforcement.specs.Claims.{then}
 use Rattle.enforcement.specs.Safety.{AllRights, HoldsNoRight, ActsHimself, OwnAction, Own, OwnSteps, Unchanged, RunSafe}
 use Rattle.enforcement.specs.declared.states.State.{State}
-use Rattle.enforcement.specs.declared.states.Next.{Next}
 use Rattle.enforcement.proofs.Ranges.{Ranged, action-ranged}
 use Rattle.enforcement.proofs.Checks.{not-refused, later-passes}
 use Rattle.enforcement.proofs.Loans.{holds-means}

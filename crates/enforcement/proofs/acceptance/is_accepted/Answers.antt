@@ -1,7 +1,6 @@
 use borrow.Author.Tests.{not-true, not-false, le-leb, lt-leb}
 use mathlib.Core.Path.{sym, ◌∙◌}
 use Rattle.enforcement.specs.States.{state_accepted}
-use borrow.Author.Rules.{rules}
 use Rattle.enforcement.proofs.acceptance.is_accepted.Goals as goal
 
 pub returns-then-time-gt-LAST_TIME : goal.returns-then-time-gt-LAST_TIME

@@ -1,15 +1,11 @@
-use borrow.Author.Tests.{not-true, not-false}
-use native.Mathlib.Omega.{arith}
-use mathlib.Core.Path.{◌≡◌, refl, sym, ◌∙◌}
+use mathlib.Core.Path.{◌≡◌}
 use mathlib.Core.Bool.{Bool, true}
 use mathlib.Core.List.{List}
 use Prim.Native.Nat.{ℕ, ◌≤◌, ◌-◌}
 use Rattle.sets.specs.Sets.{all}
-use Rattle.sets.proofs.Bounded.{all-next, all-stop}
 use Rattle.rules.specs.Families.{word_at, session_at}
 use Rattle.rules.specs.declared.sessions.Session.{Session}
 use Rattle.enforcement.specs.States.{session_accepted}
-use borrow.Author.Rules.{rules}
 use Rattle.enforcement.proofs.acceptance.sessions_accepted.Given as goal
 
 abbrev pub accepted : List Session → List ℕ → ℕ → Bool

@@ -1,7 +1,6 @@
 use mathlib.Core.Path.{sym, ◌∙◌}
 use borrow.Author.Tests.{not-true, not-false}
 use Rattle.enforcement.proofs.Planning.{adds-unselected, adds-idle}
-use borrow.Author.Rules.{rules}
 use Rattle.enforcement.proofs.events.consider.Goals as goal
 
 pub returns-then-not-is_chosen : goal.returns-then-not-is_chosen

@@ -1,6 +1,5 @@
 use mathlib.Core.Path.{refl, sym, ◌∙◌}
 use borrow.Author.Tests.{not-true, not-false}
-use borrow.Author.Rules.{rules}
 use Rattle.enforcement.proofs.events.is_misplaced.Goals as goal
 
 pub returns-then-not-member : goal.returns-then-not-member

@@ -1,10 +1,6 @@
-use mathlib.Core.Path.{◌≡◌, sym, ◌∙◌}
-use Prim.Native.Nat.{◌≤◌, ◌-◌}
+use mathlib.Core.Path.{◌≡◌}
 use native.Mathlib.Omega.{arith}
-use lib.ListN.{length, length-map}
-use Rattle.selection.specs.Choices.{chosen}
-use Rattle.enforcement.specs.Deciding.{context, Planned}
-use Rattle.selection.proofs.Judgement.{first_rules}
+use lib.ListN.{length}
 use Rattle.enforcement.proofs.Planning.{planned-none, planned-more, planned-small, planned-told}
 use borrow.Author.Rules.{rules}
 use Rattle.enforcement.proofs.events.plan_of.Goals as goal

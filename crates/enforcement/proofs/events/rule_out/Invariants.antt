@@ -1,10 +1,5 @@
-use mathlib.Core.Path.{◌≡◌}
-use mathlib.Core.Logic.{⊎_elim}
 use Prim.Native.Nat.{◌≤◌, ◌-◌}
-use native.Mathlib.Omega.{arith}
 use Rattle.enforcement.specs.Deciding.{RuledOut}
-use Rattle.enforcement.proofs.Planning.{ruled-none, ruled-in, ruled_out}
-use borrow.Author.Rules.{rules}
 use Rattle.enforcement.proofs.events.rule_out.Given as goal
 
 abbrev pub invariant-loop-i : goal.invariant-loop-i

@@ -2,7 +2,6 @@ use mathlib.Core.Path.{refl, sym, ◌∙◌}
 use native.Mathlib.Omega.{arith}
 use Rattle.enforcement.specs.Rounds.{keeps}
 use Rattle.enforcement.proofs.Planning.{adds-nothing, adds-dead, adds-needs, adds-out, keeps-past-first, keeps-past-second, keeps-in-term, keeps-past-term}
-use borrow.Author.Rules.{rules}
 use Rattle.enforcement.proofs.events.with_rule.Goals as goal
 
 pub returns-then-needed-ge-ROLES : goal.returns-then-needed-ge-ROLES

@@ -1,12 +1,9 @@
 use borrow.Author.Rules.{rules}
-use mathlib.Core.Path.{◌≡◌, refl, sym}
-use mathlib.Core.Bool.{false, ◌&&◌}
-use Prim.Native.Nat.{◌≤◌, ◌-◌}
+use mathlib.Core.Path.{refl, sym}
 use native.Mathlib.Omega.{arith}
-use lib.Dec.{eqb}
 use Rattle.sets.specs.Sets.{any}
 use Rattle.sets.proofs.Bounded.{any_of, any_next}
-use Rattle.rules.specs.Families.{has_role, session_at, is_active_for}
+use Rattle.rules.specs.Families.{is_active_for}
 use Rattle.enforcement.proofs.requests.is_active_for.Goals as goal
 
 pub sessions-init : goal.sessions-init

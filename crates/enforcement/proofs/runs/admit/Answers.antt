@@ -3,7 +3,6 @@ use mathlib.Core.Bool.{Bool, ◌&&◌}
 use borrow.Author.Tests.{not-true, not-false, lt-ltb, le-ltb}
 use Rattle.enforcement.specs.States.{state_accepted}
 use Rattle.enforcement.proofs.Running.{admission-refused, admission-full, admission-runs}
-use borrow.Author.Rules.{rules}
 use Rattle.enforcement.proofs.runs.admit.Goals as goal
 
 pub returns-then-not-is_accepted : goal.returns-then-not-is_accepted

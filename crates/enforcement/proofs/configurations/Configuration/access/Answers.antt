@@ -1,5 +1,5 @@
-use mathlib.Core.Path.{◌≡◌, refl, sym, ◌∙◌}
-use mathlib.Core.Bool.{Bool, ◌&&◌}
+use mathlib.Core.Path.{◌≡◌, refl, sym}
+use mathlib.Core.Bool.{◌&&◌}
 use mathlib.Core.Logic.{inr}
 use Prim.Native.Nat.{◌+◌, ◌*◌}
 use lib.ListN.{set}
@@ -11,7 +11,6 @@ use Rattle.enforcement.specs.Steps.{check, target, with_history}
 use Rattle.enforcement.specs.Deciding.{state_with}
 use Rattle.enforcement.proofs.EndedPairs.{none-ended}
 use Rattle.enforcement.proofs.RequestLaws.{decide-refused, granted-decided, broken-decided, not-told}
-use borrow.Author.Rules.{rules}
 use Rattle.enforcement.proofs.configurations.Configuration.access.Goals as goal
 
 pub returns-then-not-place : goal.returns-then-not-place

@@ -1,7 +1,6 @@
 use mathlib.Core.Path.{refl, sym, ◌∙◌}
 use Rattle.enforcement.proofs.RequestLaws.{decide-refused, decide-request, not-told}
 use Rattle.enforcement.specs.Steps.{check, target}
-use borrow.Author.Rules.{rules}
 use Rattle.enforcement.proofs.configurations.Configuration.activate.Goals as goal
 
 pub returns-then-not-place : goal.returns-then-not-place

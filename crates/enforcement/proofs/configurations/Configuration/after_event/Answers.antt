@@ -1,6 +1,5 @@
 use Rattle.enforcement.specs.Deciding.{state_with}
 use Rattle.enforcement.proofs.Answering.{event-left}
-use borrow.Author.Rules.{rules}
 use Rattle.enforcement.proofs.configurations.Configuration.after_event.Goals as goal
 
 pub returns : goal.returns

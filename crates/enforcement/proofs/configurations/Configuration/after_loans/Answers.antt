@@ -6,7 +6,6 @@ use Rattle.rules.specs.Families.{has_role, session_at}
 use Rattle.steps.specs.Pairs.{sifted}
 use Rattle.enforcement.specs.Steps.{with_active, unheld_closed}
 use Rattle.enforcement.specs.Deciding.{state_with, event_of}
-use borrow.Author.Rules.{rules}
 use Rattle.enforcement.proofs.configurations.Configuration.after_loans.Goals as goal
 
 pub returns : goal.returns

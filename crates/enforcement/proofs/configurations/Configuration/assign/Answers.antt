@@ -1,7 +1,6 @@
 use mathlib.Core.Path.{refl, sym, ◌∙◌}
 use Rattle.enforcement.specs.Steps.{check, target}
 use Rattle.enforcement.proofs.RequestLaws.{decide-refused, decide-request}
-use borrow.Author.Rules.{rules}
 use Rattle.enforcement.proofs.configurations.Configuration.assign.Goals as goal
 
 pub returns-then-is_held : goal.returns-then-is_held

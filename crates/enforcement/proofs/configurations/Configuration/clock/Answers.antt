@@ -7,7 +7,6 @@ use Rattle.loans.specs.declared.Loans.{Loans}
 use Rattle.enforcement.specs.Steps.{check, target, with_loans, with_time}
 use Rattle.enforcement.specs.Deciding.{state_with, held_event_of}
 use Rattle.enforcement.proofs.RequestLaws.{decide-refused, decide-event}
-use borrow.Author.Rules.{rules}
 use Rattle.enforcement.proofs.configurations.Configuration.clock.Goals as goal
 
 pub returns-then-time-self : goal.returns-then-time-self

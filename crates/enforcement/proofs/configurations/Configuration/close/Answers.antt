@@ -1,7 +1,6 @@
 use mathlib.Core.Path.{refl, ◌∙◌}
 use Rattle.enforcement.specs.Steps.{check, target}
 use Rattle.enforcement.proofs.RequestLaws.{decide-refused, decide-event}
-use borrow.Author.Rules.{rules}
 use Rattle.enforcement.proofs.configurations.Configuration.close.Goals as goal
 
 pub returns-then-not-place : goal.returns-then-not-place

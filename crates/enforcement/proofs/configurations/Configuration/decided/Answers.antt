@@ -5,7 +5,6 @@ use Rattle.steps.specs.declared.actions.Action.{Action}
 use Rattle.enforcement.specs.Steps.{check}
 use Rattle.enforcement.proofs.RequestLaws.{decide-refused}
 use Rattle.enforcement.proofs.Answering.{told-ranged, told-other}
-use borrow.Author.Rules.{rules}
 use Rattle.enforcement.proofs.configurations.Configuration.decided.Goals as goal
 
 pub administered-requires : goal.administered-requires

@@ -1,13 +1,6 @@
-use mathlib.Core.Path.{◌≡◌, refl, ap, ◌∙◌}
-use mathlib.Core.List.{List}
-use Prim.Native.Nat.{ℕ, ◌≤◌, ◌-◌, ◌+◌, ◌*◌}
-use native.Mathlib.Omega.{arith}
-use borrow.Author.Rules.{rules}
-use native.Mathlib.Numerals.{add-one}
-use lib.ListN.{set}
+use mathlib.Core.Path.{◌≡◌}
+use Prim.Native.Nat.{◌≤◌, ◌-◌}
 use Rattle.enforcement.specs.Steps.{emptied}
-use Rattle.enforcement.specs.Deciding.{state_with, plain_next}
-use Rattle.enforcement.proofs.RequestLaws.{finish-granted}
 use Rattle.enforcement.proofs.configurations.Configuration.finish.Given as goal
 
 abbrev pub invariant-loop-i : goal.invariant-loop-i

@@ -1,5 +1,4 @@
 use mathlib.Core.Path.{◌≡◌, refl, sym, ◌∙◌}
-use mathlib.Core.Bool.{Bool}
 use mathlib.Core.Logic.{inr}
 use lib.ListN.{set}
 use lib.Seq.{set-set, set-get_or}
@@ -10,7 +9,6 @@ use Rattle.enforcement.specs.Deciding.{state_with}
 use Rattle.enforcement.proofs.EndedPairs.{none-ended}
 use Rattle.rights.proofs.Carrying.{carries-word}
 use Rattle.enforcement.proofs.RequestLaws.{decide-refused, granted-decided, broken-decided}
-use borrow.Author.Rules.{rules}
 use Rattle.enforcement.proofs.configurations.Configuration.grant.Goals as goal
 use Rattle.enforcement.proofs.configurations.Configuration.grant.Goals.{After-member}
 

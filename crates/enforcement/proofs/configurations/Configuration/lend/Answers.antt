@@ -1,7 +1,6 @@
 use mathlib.Core.Path.{refl, sym, ◌∙◌}
 use Rattle.enforcement.specs.Steps.{check, target}
 use Rattle.enforcement.proofs.RequestLaws.{decide-refused, decide-request, not-told}
-use borrow.Author.Rules.{rules}
 use Rattle.enforcement.proofs.configurations.Configuration.lend.Goals as goal
 
 pub returns-then-not-member : goal.returns-then-not-member

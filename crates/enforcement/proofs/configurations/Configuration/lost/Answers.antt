@@ -1,6 +1,5 @@
 use mathlib.Core.Path.{◌∙◌}
 use Rattle.enforcement.proofs.Answering.{lost-placed}
-use borrow.Author.Rules.{rules}
 use Rattle.enforcement.proofs.configurations.Configuration.lost.Goals as goal
 
 pub returns : goal.returns

@@ -2,7 +2,6 @@ use mathlib.Core.Path.{refl, ◌∙◌}
 use Rattle.enforcement.specs.Steps.{check, target}
 use Rattle.selection.specs.Selection.{selects}
 use Rattle.enforcement.proofs.RequestLaws.{decide-refused, decide-request, request-free}
-use borrow.Author.Rules.{rules}
 use Rattle.enforcement.proofs.configurations.Configuration.open_session.Goals as goal
 
 pub returns-then-old : goal.returns-then-old

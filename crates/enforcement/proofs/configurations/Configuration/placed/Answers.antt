@@ -2,7 +2,6 @@ use mathlib.Core.Path.{◌∙◌}
 use borrow.Author.Tests.{not-true, not-false}
 use Rattle.enforcement.specs.Deciding.{state_with}
 use Rattle.enforcement.proofs.Answering.{placed-closed, placed-open}
-use borrow.Author.Rules.{rules}
 use Rattle.enforcement.proofs.configurations.Configuration.placed.Goals as goal
 
 pub returns-then-not-place : goal.returns-then-not-place

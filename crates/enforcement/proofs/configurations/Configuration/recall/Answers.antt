@@ -6,7 +6,6 @@ use Rattle.loans.specs.declared.Loans.{Loans}
 use Rattle.enforcement.specs.Steps.{check, target, with_loans}
 use Rattle.enforcement.specs.Deciding.{state_with, held_event_of}
 use Rattle.enforcement.proofs.RequestLaws.{decide-refused, decide-event, not-told}
-use borrow.Author.Rules.{rules}
 use Rattle.enforcement.proofs.configurations.Configuration.recall.Goals as goal
 
 pub returns-then-not-has_some : goal.returns-then-not-has_some

@@ -1,11 +1,10 @@
-use mathlib.Core.Path.{◌≡◌, sym, ◌∙◌}
+use mathlib.Core.Path.{◌≡◌, ◌∙◌}
 use mathlib.Core.Logic.{inr}
 use Prim.Native.Nat.{◌<◌}
 use native.Mathlib.Omega.{arith}
-use lib.ListN.{length, length-map}
+use lib.ListN.{length}
 use lib.Seq.{set-set, set-get_or}
 use Rattle.enforcement.proofs.RequestLaws.{request-granted, request-broken, ended-one}
-use borrow.Author.Rules.{rules}
 use Rattle.enforcement.proofs.configurations.Configuration.with_active.Goals as goal
 use Rattle.enforcement.proofs.configurations.Configuration.with_active.Goals.{Start}
 

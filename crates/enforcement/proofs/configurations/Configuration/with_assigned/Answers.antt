@@ -3,7 +3,6 @@ use mathlib.Core.Logic.{inl}
 use lib.Seq.{set-set, set-get_or}
 use Rattle.enforcement.proofs.EndedPairs.{none-ended}
 use Rattle.enforcement.proofs.RequestLaws.{request-granted, request-broken}
-use borrow.Author.Rules.{rules}
 use Rattle.enforcement.proofs.configurations.Configuration.with_assigned.Goals as goal
 
 pub returns-in_default : goal.returns-in_default

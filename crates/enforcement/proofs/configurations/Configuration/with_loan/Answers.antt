@@ -6,7 +6,6 @@ use Rattle.enforcement.specs.Steps.{with_loans}
 use Rattle.enforcement.specs.Deciding.{state_with, request_of}
 use Rattle.enforcement.proofs.EndedPairs.{none-ended}
 use Rattle.enforcement.proofs.RequestLaws.{request-granted, request-broken}
-use borrow.Author.Rules.{rules}
 use Rattle.enforcement.proofs.configurations.Configuration.with_loan.Goals as goal
 
 pub returns-in_default : goal.returns-in_default

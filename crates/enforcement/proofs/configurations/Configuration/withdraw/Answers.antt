@@ -1,8 +1,7 @@
-use mathlib.Core.Path.{refl, sym, ◌∙◌}
+use mathlib.Core.Path.{refl, ◌∙◌}
 use Rattle.loans.specs.Meant.{meant}
 use Rattle.enforcement.proofs.RequestLaws.{decide-refused, decide-request, not-told}
 use Rattle.enforcement.specs.Steps.{check, target}
-use borrow.Author.Rules.{rules}
 use Rattle.enforcement.proofs.configurations.Configuration.withdraw.Goals as goal
 
 pub returns-then-not-member : goal.returns-then-not-member

@@ -1,4 +1,3 @@
-use borrow.Author.Rules.{rules}
 use Rattle.enforcement.specs.States.{fresh}
 use Rattle.enforcement.proofs.states.State.fresh.Goals as goal
 

@@ -1,5 +1,4 @@
 use Rattle.enforcement.specs.States.{state_accepted}
-use borrow.Author.Rules.{rules}
 use Rattle.enforcement.proofs.states.State.is_accepted.Goals as goal
 
 pub returns : goal.returns
