@@ -1,6 +1,5 @@
 use mathlib.Core.Path.{◌∙◌}
 use Rattle.joining.specs.Joining.{same_line, equal_rules}
-use borrow.Author.Rules.{rules}
 use Rattle.joining.proofs.equality.equal_rules.Goals as goal
 
 pub returns : goal.returns

@@ -1,11 +1,10 @@
 use mathlib.Core.Path.{◌≡◌, refl, sym, ap, ◌∙◌}
-use mathlib.Core.Bool.{true, not}
-use Prim.Native.Nat.{◌-◌, ◌≤◌}
+use mathlib.Core.Bool.{not}
 use native.Mathlib.Omega.{arith}
-use lib.ListN.{length, length-map}
+use lib.ListN.{length}
 use Rattle.rules.specs.Acceptance.{every}
-use Rattle.rules.proofs.Every.{every_first, every-next, every-stop}
-use Rattle.joining.specs.Joining.{equal_rules, equals_none}
+use Rattle.rules.proofs.Every.{every-next, every-stop}
+use Rattle.joining.specs.Joining.{equals_none}
 use borrow.Author.Rules.{rules}
 use Rattle.joining.proofs.equality.equals_none.Goals as goal
 use Rattle.joining.proofs.equality.equals_none.Goals.{Start}

@@ -1,4 +1,3 @@
-use borrow.Author.Rules.{rules}
 use Rattle.joining.proofs.equality.same_line.Goals as goal
 
 pub returns : goal.returns

@@ -1,13 +1,9 @@
-use mathlib.Core.Path.{◌≡◌, refl, sym}
+use mathlib.Core.Path.{◌≡◌}
 use mathlib.Core.Bool.{true}
 use Prim.Native.Nat.{◌-◌, ◌≤◌}
-use native.Mathlib.Omega.{arith}
 use lib.ListN.{get_or}
 use lib.Dec.{eqb}
-use borrow.Author.Tests.{eq-eqb, ne_eqb}
 use Rattle.sets.specs.Sets.{all}
-use Rattle.sets.proofs.Bounded.{all-next, all-stop}
-use borrow.Author.Rules.{rules}
 use Rattle.joining.proofs.equality.same_values.Given as goal
 
 abbrev pub invariant-values : goal.invariant-values

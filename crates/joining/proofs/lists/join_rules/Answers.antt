@@ -1,13 +1,12 @@
 use mathlib.Core.Path.{◌≡◌, sym, ◌∙◌}
-use Prim.Native.Nat.{ℕ, ◌-◌, ◌≤◌, ◌<◌}
+use Prim.Native.Nat.{ℕ, ◌≤◌, ◌<◌}
 use native.Mathlib.Omega.{arith}
-use lib.ListN.{length, length-map}
+use lib.ListN.{length}
 use borrow.Author.Tests.{not-true, not-false}
 use Rattle.rules.specs.Acceptance.{rules_of}
 use Rattle.rule_text.proofs.Slots.{accepted-most, list-few}
 use Rattle.joining.specs.Joining.{joined_rights, rules_joined}
-use Rattle.joining.proofs.Loops.{made-rights, made-rules, Joining, joining-start, joining-few, joining-end, joining-stop, joining-equal, joining-new}
-use borrow.Author.Rules.{rules}
+use Rattle.joining.proofs.Loops.{made-rights, made-rules, joining-start, joining-few, joining-end, joining-stop, joining-equal, joining-new}
 use Rattle.joining.proofs.lists.join_rules.Goals as goal
 use Rattle.joining.proofs.lists.join_rules.Goals.{After-with_both_rights-list, Start}
 

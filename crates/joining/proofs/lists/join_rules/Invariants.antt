@@ -1,13 +1,6 @@
-use mathlib.Core.Path.{◌≡◌, sym, ◌∙◌}
-use Prim.Native.Nat.{ℕ, ◌-◌, ◌≤◌, ◌<◌}
-use native.Mathlib.Omega.{arith}
-use lib.ListN.{length, length-map}
-use borrow.Author.Tests.{not-true, not-false}
+use Prim.Native.Nat.{◌-◌}
 use Rattle.rules.specs.Acceptance.{rules_of}
-use Rattle.rule_text.proofs.Slots.{accepted-most, list-few}
-use Rattle.joining.specs.Joining.{joined_rights, rules_joined}
-use Rattle.joining.proofs.Loops.{made-rights, made-rules, Joining, joining-start, joining-few, joining-end, joining-stop, joining-equal, joining-new}
-use borrow.Author.Rules.{rules}
+use Rattle.joining.proofs.Loops.{Joining}
 use Rattle.joining.proofs.lists.join_rules.Given as goal
 
 abbrev pub invariant-loop-i : goal.invariant-loop-i

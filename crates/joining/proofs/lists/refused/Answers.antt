@@ -1,4 +1,3 @@
-use borrow.Author.Rules.{rules}
 use Rattle.joining.proofs.lists.refused.Goals as goal
 
 pub returns : goal.returns

@@ -1,10 +1,8 @@
-use mathlib.Core.Path.{◌≡◌, sym, ◌∙◌}
-use Prim.Native.Nat.{◌-◌}
+use mathlib.Core.Path.{◌≡◌}
 use native.Mathlib.Omega.{arith}
-use lib.ListN.{length, length-map}
+use lib.ListN.{length}
 use Rattle.rule_text.proofs.Slots.{accepted-most}
-use Rattle.joining.proofs.Loops.{Copied, copied-start, copied-turn, copied-slots, copied-end, made-rights}
-use borrow.Author.Rules.{rules}
+use Rattle.joining.proofs.Loops.{copied-start, copied-turn, copied-slots, copied-end, made-rights}
 use Rattle.joining.proofs.lists.with_both_rights.Goals as goal
 use Rattle.joining.proofs.lists.with_both_rights.Goals.{Start}
 

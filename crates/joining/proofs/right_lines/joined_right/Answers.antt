@@ -1,4 +1,3 @@
-use borrow.Author.Rules.{rules}
 use Rattle.joining.proofs.right_lines.joined_right.Goals as goal
 
 pub returns-in-Permission : goal.returns-in-Permission

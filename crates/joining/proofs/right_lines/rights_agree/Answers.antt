@@ -1,4 +1,3 @@
-use borrow.Author.Rules.{rules}
 use Rattle.joining.proofs.right_lines.rights_agree.Goals as goal
 
 pub returns-in-Permission : goal.returns-in-Permission

@@ -1,7 +1,5 @@
-use Prim.Native.Nat.{◌-◌}
 use native.Mathlib.Omega.{arith}
-use Rattle.joining.proofs.Rights.{Filled, filled-start, filled-turn, filled-end}
-use borrow.Author.Rules.{rules}
+use Rattle.joining.proofs.Rights.{filled-start, filled-turn, filled-end}
 use Rattle.joining.proofs.right_lines.rights_of_both.Goals as goal
 
 pub loop-kind-init : goal.loop-kind-init

@@ -1,7 +1,5 @@
 use Prim.Native.Nat.{◌-◌}
-use native.Mathlib.Omega.{arith}
-use Rattle.joining.proofs.Rights.{Filled, filled-start, filled-turn, filled-end}
-use borrow.Author.Rules.{rules}
+use Rattle.joining.proofs.Rights.{Filled}
 use Rattle.joining.proofs.right_lines.rights_of_both.Given as goal
 
 abbrev pub invariant-loop-kind : goal.invariant-loop-kind

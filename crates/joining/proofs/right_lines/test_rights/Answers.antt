@@ -1,12 +1,8 @@
-use mathlib.Core.Path.{◌≡◌, refl, sym, ◌∙◌}
-use Prim.Native.Nat.{◌-◌, ◌≤◌}
+use mathlib.Core.Path.{refl, sym, ◌∙◌}
 use native.Mathlib.Omega.{arith}
 use borrow.Author.Tests.{not-true, not-false}
-use Rattle.rules.specs.Acceptance.{right_at}
 use Rattle.rules.specs.Breach.{first_broken}
-use Rattle.rules.specs.declared.tests.Tested.TheVariants.{Kept}
 use Rattle.rules.proofs.Breach.{first_more, first_found}
-use Rattle.joining.specs.Joining.{rights_agree}
 use borrow.Author.Rules.{rules}
 use Rattle.joining.proofs.right_lines.test_rights.Goals as goal
 
