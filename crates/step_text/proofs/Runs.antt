@@ -1,9 +1,8 @@
 -- What comes of the lines as they are gone through is our gate's run over the steps that were read.
 -- Assumes nothing.
-use mathlib.Core.Path.{◌≡◌, refl, sym, ap, ◌∙◌, subst}
-use mathlib.Core.Bool.{Bool, true, false, cond, ◌&&◌}
-use mathlib.Core.List.{List, [], ◌∷◌, ◌++◌}
-use Prim.Native.Nat.{ℕ, zero, suc, ◌+◌, ◌-◌, ◌*◌, ◌≤◌, ◌<◌}
+use mathlib.Core.Path.{◌≡◌, refl, sym, ap, ◌∙◌}
+use mathlib.Core.List.{List, [], ◌∷◌}
+use Prim.Native.Nat.{ℕ, zero, suc, ◌<◌}
 use native.Mathlib.Omega.{arith}
 use lib.ListN.{length, drop}
 use Rattle.rules.specs.declared.lists.RuleList.{RuleList}
@@ -11,7 +10,7 @@ use Rattle.enforcement.specs.Gate.{step_of, run_of}
 use Rattle.enforcement.specs.declared.states.State.{State}
 use Rattle.steps.specs.declared.steps.Step.{Step}
 use Rattle.enforcement.specs.declared.states.Next.{Next}
-use Rattle.step_text.specs.Lines.{read_step, StepsRead, steps, bad, onto, line_length, after, read_from, read_steps, bad_line}
+use Rattle.step_text.specs.Lines.{read_step, StepsRead, steps, bad, line_length, after, read_from, read_steps}
 use Rattle.step_text.specs.Running.{line_run, run_from, text_run}
 use Rattle.step_text.specs.declared.lines.StepRead.{StepRead}
 use Rattle.step_text.specs.declared.lines.StepRead.TheVariants.{Good, Bad}

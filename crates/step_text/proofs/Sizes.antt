@@ -1,8 +1,8 @@
 -- How long a response can be: a step's line has 9 bytes at least, an answer's at most 16. Assumes nothing.
-use mathlib.Core.Path.{◌≡◌, refl, sym, ap, ◌∙◌, subst}
+use mathlib.Core.Path.{◌≡◌, refl, ap, ◌∙◌, subst}
 use mathlib.Core.Bool.{Bool, true, false, cond, ◌&&◌}
 use mathlib.Core.List.{List, [], ◌∷◌, ◌++◌}
-use Prim.Native.Nat.{ℕ, zero, suc, ◌+◌, ◌-◌, ◌*◌, ◌/◌, ◌%◌, ◌^◌, ◌≤◌, ◌<◌}
+use Prim.Native.Nat.{ℕ, zero, suc, ◌+◌, ◌*◌, ◌/◌, ◌%◌, ◌≤◌, ◌<◌}
 use native.Mathlib.Omega.{arith}
 use lib.ListN.{length, drop, get_or, length-append, length-drop}
 use lib.Dec.{leb, eqb}
@@ -24,7 +24,7 @@ use Rattle.steps.specs.declared.answers.Answer.{Answer}
 use Rattle.steps.specs.declared.answers.Answer.TheVariants.{Granted, Broken, Refused}
 use Rattle.enforcement.proofs.AnswerFits.{answer_back}
 use Rattle.enforcement.proofs.Reaching.{step-accepted}
-use Rattle.step_text.specs.Lines.{form_lines, step_forms, form_count, step_from, line_after, read_step, StepsRead, steps, bad, onto, line_length, after, read_from, read_steps, bad_line}
+use Rattle.step_text.specs.Lines.{form_lines, step_forms, form_count, step_from, line_after, read_step, StepsRead, steps, bad, line_length, after, read_from, read_steps}
 use Rattle.step_text.specs.Answers.{answer_forms, line_text, answer_text, bad_text, answers_text}
 use Rattle.step_text.specs.declared.lines.StepRead.{StepRead}
 use Rattle.step_text.specs.declared.lines.StepRead.TheVariants.{Good, Bad}

@@ -7,7 +7,6 @@ use Rattle.forms.specs.declared.tables.Found.{Found}
 use Rattle.steps.specs.Steps.{numbered, with_by}
 use Rattle.steps.specs.declared.acting.Acting.TheVariants.{Nobody, InSession}
 use Rattle.steps.specs.declared.steps.Step.{Step}
-use Rattle.step_text.specs.declared.lines.StepLine.{StepLine}
 use Rattle.step_text.specs.declared.lines.StepRead.{StepRead}
 use Rattle.step_text.specs.declared.lines.StepRead.TheVariants.{Good, Bad}
 

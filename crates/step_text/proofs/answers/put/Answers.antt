@@ -6,7 +6,6 @@ use Rattle.forms.specs.Tables.{lines_in, starts_of}
 use Rattle.forms.proofs.Index.{index-line}
 use Rattle.forms.proofs.Puts.{like}
 use Rattle.step_text.specs.Answers.{answer_forms, line_text}
-use borrow.Author.Rules.{rules}
 use Rattle.step_text.proofs.answers.put.Goals as goal
 
 -- the index that the code has is the table's

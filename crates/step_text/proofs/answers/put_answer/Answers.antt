@@ -1,7 +1,6 @@
-use mathlib.Core.Path.{◌≡◌, ap}
+use mathlib.Core.Path.{ap}
 use Rattle.forms.proofs.Puts.{like}
 use Rattle.step_text.specs.Answers.{answer_text}
-use borrow.Author.Rules.{rules}
 use Rattle.step_text.proofs.answers.put_answer.Goals as goal
 
 pub returns-in-Granted : goal.returns-in-Granted

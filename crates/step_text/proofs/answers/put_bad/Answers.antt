@@ -1,5 +1,4 @@
 use Rattle.step_text.specs.Answers.{bad_text}
-use borrow.Author.Rules.{rules}
 use Rattle.step_text.proofs.answers.put_bad.Goals as goal
 
 pub returns : goal.returns

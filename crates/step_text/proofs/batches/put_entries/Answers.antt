@@ -1,9 +1,7 @@
 use mathlib.Core.Path.{◌≡◌}
-use Prim.Native.Nat.{◌-◌}
 use native.Mathlib.Omega.{arith}
 use lib.ListN.{length}
-use borrow.Author.Rules.{rules}
-use Rattle.step_text.proofs.Batching.{Writing, writing_start, writing-few, writing-turn, writing-end}
+use Rattle.step_text.proofs.Batching.{writing_start, writing-few, writing-turn, writing-end}
 use Rattle.step_text.proofs.batches.put_entries.Goals as goal
 
 pub loop-i-init : goal.loop-i-init

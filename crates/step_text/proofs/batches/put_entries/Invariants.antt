@@ -1,9 +1,5 @@
-use mathlib.Core.Path.{◌≡◌}
 use Prim.Native.Nat.{◌-◌}
-use native.Mathlib.Omega.{arith}
-use lib.ListN.{length}
-use borrow.Author.Rules.{rules}
-use Rattle.step_text.proofs.Batching.{Writing, writing_start, writing-few, writing-turn, writing-end}
+use Rattle.step_text.proofs.Batching.{Writing}
 use Rattle.step_text.proofs.batches.put_entries.Given as goal
 
 abbrev pub invariant-loop-i : goal.invariant-loop-i

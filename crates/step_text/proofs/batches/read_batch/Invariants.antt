@@ -1,7 +1,4 @@
-use Prim.Native.Nat.{◌≤◌}
-use native.Mathlib.Omega.{arith}
-use borrow.Author.Rules.{rules}
-use Rattle.step_text.proofs.Batching.{Reading, reading-start, reading-few, reading-fits, reading-less, reading-turn, reading-stop, reading-end}
+use Rattle.step_text.proofs.Batching.{Reading}
 use Rattle.step_text.proofs.batches.read_batch.Given as goal
 
 abbrev pub invariant-loop-count : goal.invariant-loop-count

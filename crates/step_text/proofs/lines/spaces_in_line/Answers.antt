@@ -1,7 +1,4 @@
-use Prim.Native.Nat.{◌≤◌, ◌-◌}
 use native.Mathlib.Omega.{arith}
-use mathlib.Core.Logic.{⊎_elim}
-use borrow.Author.Rules.{rules}
 use Rattle.step_text.proofs.lines.spaces_in_line.Goals as goal
 use Rattle.step_text.proofs.lines.spaces_in_line.Goals.{else-byte-eq32, then-byte-eq32}
 

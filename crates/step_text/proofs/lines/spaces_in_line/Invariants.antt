@@ -1,7 +1,4 @@
 use Prim.Native.Nat.{◌≤◌, ◌-◌}
-use native.Mathlib.Omega.{arith}
-use mathlib.Core.Logic.{⊎_elim}
-use borrow.Author.Rules.{rules}
 use Rattle.step_text.proofs.lines.spaces_in_line.Given as goal
 
 abbrev pub invariant-loop-i : goal.invariant-loop-i

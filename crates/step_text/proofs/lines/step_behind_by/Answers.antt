@@ -1,4 +1,3 @@
-use borrow.Author.Rules.{rules}
 use Rattle.step_text.proofs.lines.step_behind_by.Goals as goal
 
 pub returns : goal.returns

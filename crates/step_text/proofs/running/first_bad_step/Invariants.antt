@@ -1,8 +1,5 @@
-use mathlib.Core.Path.{◌≡◌}
-use native.Mathlib.Omega.{arith}
 use lib.ListN.{length}
-use borrow.Author.Rules.{rules}
-use Rattle.step_text.proofs.Stepping.{Check, check-start, check-stop, check-fits, check-less, check-turn, check-end}
+use Rattle.step_text.proofs.Stepping.{Check}
 use Rattle.step_text.proofs.running.first_bad_step.Given as goal
 
 abbrev pub invariant-loop-rest : goal.invariant-loop-rest

@@ -1,8 +1,7 @@
 use Prim.Native.Nat.{◌≤◌}
 use native.Mathlib.Omega.{arith}
 use lib.ListN.{length}
-use borrow.Author.Rules.{rules}
-use Rattle.step_text.proofs.Stepping.{Answering, answers-start, answers-end}
+use Rattle.step_text.proofs.Stepping.{answers-start, answers-end}
 use Rattle.step_text.proofs.Batching.{batch-stop, batch-fits, batch-less, batch-turn}
 use Rattle.step_text.proofs.running.put_answers.Goals as goal
 

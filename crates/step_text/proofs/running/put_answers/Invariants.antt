@@ -1,9 +1,5 @@
-use Prim.Native.Nat.{◌≤◌}
-use native.Mathlib.Omega.{arith}
 use lib.ListN.{length}
-use borrow.Author.Rules.{rules}
-use Rattle.step_text.proofs.Stepping.{Answering, answers-start, answers-end}
-use Rattle.step_text.proofs.Batching.{batch-stop, batch-fits, batch-less, batch-turn}
+use Rattle.step_text.proofs.Stepping.{Answering}
 use Rattle.step_text.proofs.running.put_answers.Given as goal
 
 abbrev pub invariant-loop-rest : goal.invariant-loop-rest
