@@ -41,7 +41,7 @@ use Rattle.state_text.specs.declared.entries.Entry.{Entry}
 use Rattle.state_text.specs.declared.entries.Entry.TheVariants.{Now, Assigned, Granted, Loan as LoanLine, Open, Place, Active, Did, PlaceWithError}
 use Rattle.state_text.proofs.Rows.{by-test}
 use Rattle.state_text.proofs.LoanCells.{kept-none, inserted-last}
-use Rattle.state_text.proofs.Cells.{at, Ended, at-now, at-assigned, at-granted, at-session, carries-word, loans-till}
+use Rattle.state_text.proofs.Cells.{Ended, at-now, at-assigned, at-granted, at-session, carries-word, loans-till}
 
 -- 40 does not refuse it, each active role is held by its session's user, and its loans run as they were lent
 pub record Kept (s : State) : Type 0 where

@@ -1,7 +1,6 @@
 use native.Mathlib.Omega.{arith}
 use native.Mathlib.Nat.{mul-le-mul}
 use Prim.Native.Nat.{◌*◌, ◌≤◌}
-use borrow.Author.Rules.{rules}
 use Rattle.state_text.proofs.entries.column_rank.Goals as goal
 use Rattle.state_text.proofs.entries.column_rank.Goals.{Start}
 

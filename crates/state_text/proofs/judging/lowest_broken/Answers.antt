@@ -1,11 +1,10 @@
 use native.Mathlib.Omega.{arith}
 use borrow.Author.Tests.{not-true, not-false}
 use mathlib.Core.Path.{◌≡◌, refl, sym, ap, ◌∙◌}
-use mathlib.Core.Bool.{true}
-use Prim.Native.Nat.{◌+◌, ◌≤◌, ◌-◌}
-use lib.ListN.{length, length-map}
+use Prim.Native.Nat.{◌+◌}
+use lib.ListN.{length}
 use Rattle.rules.specs.Acceptance.{every}
-use Rattle.rules.proofs.Every.{every_first, every-next}
+use Rattle.rules.proofs.Every.{every-next}
 use Rattle.enforcement.specs.States.{rule_holds}
 use Rattle.steps.specs.declared.lowest.Lowest.TheVariants.{BrokenAt}
 use Rattle.state_text.proofs.LowestRule.{every-unbroken, lowest-stop, rule-tested}

@@ -1,7 +1,6 @@
 use mathlib.Core.Path.{ap, ◌∙◌}
 use Rattle.loans.specs.declared.Loans.{Loans}
 use Rattle.state_text.proofs.Fields.{fields, other, loan-count}
-use borrow.Author.Rules.{rules}
 use borrow.Enum.Refused.{opened}
 use Rattle.state_text.proofs.lines.count_after.Goals as goal
 

@@ -1,4 +1,3 @@
-use borrow.Author.Rules.{rules}
 use Rattle.state_text.proofs.lines.has_room.Goals as goal
 
 pub returns : goal.returns

@@ -3,7 +3,6 @@ use native.Mathlib.Omega.{arith}
 use Rattle.loans.specs.declared.Loans.{Loans}
 use Rattle.state_text.specs.Causes.{Ranged}
 use Rattle.state_text.proofs.Fields.{fields, other, loan-entries, entries-again}
-use borrow.Author.Rules.{rules}
 use borrow.Enum.Refused.{opened}
 use Rattle.state_text.proofs.lines.loan_after.Goals as goal
 

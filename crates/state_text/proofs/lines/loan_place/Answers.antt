@@ -1,6 +1,5 @@
 use borrow.Author.Tests.{lt-ltb, le-ltb}
 use Rattle.state_text.specs.Parts.{loan_place}
-use borrow.Author.Rules.{rules}
 use Rattle.state_text.proofs.lines.loan_place.Goals as goal
 
 pub returns-then-count-lt-MOST : goal.returns-then-count-lt-MOST

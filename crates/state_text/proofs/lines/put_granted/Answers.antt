@@ -3,7 +3,6 @@ use native.Mathlib.Omega.{arith}
 use Rattle.state_text.specs.Entries.{with_line}
 use Rattle.state_text.specs.Causes.{Ranged}
 use Rattle.state_text.proofs.Fields.{fields, other}
-use borrow.Author.Rules.{rules}
 use borrow.Enum.Refused.{opened}
 use Rattle.state_text.proofs.lines.put_granted.Goals as goal
 

@@ -5,7 +5,6 @@ use Rattle.enforcement.specs.Steps.{with_assigned}
 use Rattle.state_text.specs.Entries.{with_line}
 use Rattle.state_text.specs.Causes.{Ranged}
 use Rattle.state_text.proofs.Fields.{another, held_kept, held-lent}
-use borrow.Author.Rules.{rules}
 use borrow.Enum.Refused.{opened}
 use Rattle.state_text.proofs.lines.put_held.Goals as goal
 

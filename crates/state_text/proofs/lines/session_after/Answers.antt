@@ -6,7 +6,6 @@ use Rattle.state_text.specs.Entries.{with_line}
 use Rattle.state_text.specs.Causes.{Ranged}
 use Rattle.state_text.specs.Parts.{session_of}
 use Rattle.state_text.proofs.Fields.{stored-again}
-use borrow.Author.Rules.{rules}
 use Rattle.state_text.proofs.lines.session_after.Goals as goal
 
 pub overflow_cast-result : goal.overflow_cast-result

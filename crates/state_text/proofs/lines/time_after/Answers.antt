@@ -1,7 +1,6 @@
 use mathlib.Core.Path.{◌∙◌}
 use Rattle.state_text.specs.Entries.{with_line}
 use Rattle.state_text.proofs.Fields.{fields, other}
-use borrow.Author.Rules.{rules}
 use borrow.Enum.Refused.{opened}
 use Rattle.state_text.proofs.lines.time_after.Goals as goal
 

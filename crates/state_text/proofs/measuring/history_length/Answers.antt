@@ -1,12 +1,8 @@
 use native.Mathlib.Omega.{arith}
-use Prim.Native.Nat.{◌*◌, ◌/◌, ◌%◌, ◌-◌, ◌≤◌}
+use Prim.Native.Nat.{◌/◌, ◌%◌}
 use mathlib.Core.Path.{◌≡◌}
-use lib.ListN.{length}
-use Rattle.state_text.specs.Saving.{over, lines_text}
-use Rattle.state_text.specs.Parts.{history_lines}
 use Rattle.state_text.proofs.LineSizes.{width-most}
 use Rattle.state_text.proofs.Measures.{sum-start, history-turn}
-use borrow.Author.Rules.{rules}
 use Rattle.state_text.proofs.measuring.history_length.Goals as goal
 
 pub loop-i-init : goal.loop-i-init

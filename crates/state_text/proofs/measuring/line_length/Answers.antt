@@ -3,7 +3,6 @@ use native.Mathlib.Nat.{zero-add}
 use lib.ListN.{length}
 use Rattle.forms.specs.Writing.{capped}
 use Rattle.state_text.specs.Entries.{line_text}
-use borrow.Author.Rules.{rules}
 use Rattle.state_text.proofs.measuring.line_length.Goals as goal
 
 pub returns : goal.returns

@@ -1,14 +1,13 @@
 use native.Mathlib.Omega.{arith}
-use Prim.Native.Nat.{◌*◌, ◌-◌, ◌≤◌, ◌<◌}
-use mathlib.Core.Path.{◌≡◌, sym, ap, ◌∙◌}
+use Prim.Native.Nat.{◌<◌}
+use mathlib.Core.Path.{◌≡◌, ap, ◌∙◌}
 use mathlib.Core.List.{List}
-use lib.ListN.{length, length-map}
+use lib.ListN.{length}
 use Rattle.loans.proofs.Remaining.{still}
-use Rattle.state_text.specs.Saving.{over, lines_text}
+use Rattle.state_text.specs.Saving.{lines_text}
 use Rattle.state_text.specs.declared.entries.Entry.{Entry}
-use Rattle.state_text.proofs.Writes.{loan_part, Shown, shown-start, shown-turn, shown-end}
+use Rattle.state_text.proofs.Writes.{loan_part, shown-start, shown-turn, shown-end}
 use Rattle.state_text.proofs.Measures.{sum-start, sum-turn}
-use borrow.Author.Rules.{rules}
 use Rattle.state_text.proofs.measuring.loans_length.Goals as goal
 use Rattle.state_text.proofs.measuring.loans_length.Goals.{In-loop-i, Start}
 

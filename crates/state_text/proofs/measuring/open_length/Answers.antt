@@ -1,7 +1,6 @@
 use native.Mathlib.Omega.{arith}
 use Rattle.state_text.specs.Parts.{open_lines}
 use Rattle.state_text.proofs.Measures.{open-measured, none-measured}
-use borrow.Author.Rules.{rules}
 use Rattle.state_text.proofs.measuring.open_length.Goals as goal
 
 pub returns-then-is_open : goal.returns-then-is_open

@@ -1,10 +1,8 @@
 use native.Mathlib.Omega.{arith}
-use Prim.Native.Nat.{◌*◌, ◌-◌, ◌≤◌}
 use mathlib.Core.Path.{◌≡◌}
 use lib.ListN.{length}
 use Rattle.state_text.proofs.LineSizes.{width-most}
-use Rattle.state_text.proofs.Measures.{RowsTill, sum-start, rows-turn}
-use borrow.Author.Rules.{rules}
+use Rattle.state_text.proofs.Measures.{sum-start, rows-turn}
 use Rattle.state_text.proofs.measuring.rows_length.Goals as goal
 
 pub loop-i-init : goal.loop-i-init

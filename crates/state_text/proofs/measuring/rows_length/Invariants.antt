@@ -1,10 +1,6 @@
-use native.Mathlib.Omega.{arith}
 use Prim.Native.Nat.{◌*◌, ◌-◌, ◌≤◌}
-use mathlib.Core.Path.{◌≡◌}
 use lib.ListN.{length}
-use Rattle.state_text.proofs.LineSizes.{width-most}
-use Rattle.state_text.proofs.Measures.{RowsTill, sum-start, rows-turn}
-use borrow.Author.Rules.{rules}
+use Rattle.state_text.proofs.Measures.{RowsTill}
 use Rattle.state_text.proofs.measuring.rows_length.Given as goal
 
 abbrev pub invariant-loop-i : goal.invariant-loop-i

@@ -1,7 +1,6 @@
 use native.Mathlib.Omega.{arith}
 use Rattle.state_text.proofs.LineSizes.{width-most}
 use Rattle.state_text.proofs.Measures.{session-measured}
-use borrow.Author.Rules.{rules}
 use Rattle.state_text.proofs.measuring.session_length.Goals as goal
 
 pub overflow_add-width : goal.overflow_add-width

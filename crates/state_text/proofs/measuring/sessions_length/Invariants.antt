@@ -1,11 +1,8 @@
-use native.Mathlib.Omega.{arith}
 use Prim.Native.Nat.{◌*◌, ◌-◌, ◌≤◌}
 use mathlib.Core.Path.{◌≡◌}
 use lib.ListN.{length}
 use Rattle.state_text.specs.Saving.{over, lines_text}
 use Rattle.state_text.specs.Parts.{session_parts_at}
-use Rattle.state_text.proofs.Measures.{sum-start, sum-turn}
-use borrow.Author.Rules.{rules}
 use Rattle.state_text.proofs.measuring.sessions_length.Given as goal
 
 abbrev pub invariant-loop-i : goal.invariant-loop-i

@@ -1,6 +1,5 @@
 use native.Mathlib.Omega.{arith}
 use Rattle.state_text.proofs.Measures.{product-most, short-most, set-measured}
-use borrow.Author.Rules.{rules}
 use Rattle.state_text.proofs.measuring.set_length.Goals as goal
 
 pub overflow_mul-result : goal.overflow_mul-result

@@ -1,6 +1,5 @@
 use borrow.Author.Tests.{lt-ltb, le-ltb}
 use Rattle.state_text.specs.Parts.{width}
-use borrow.Author.Rules.{rules}
 use Rattle.state_text.proofs.measuring.width.Goals as goal
 
 pub returns-then-number-lt10 : goal.returns-then-number-lt10

@@ -1,6 +1,5 @@
 use mathlib.Core.Path.{sym, ◌∙◌}
 use borrow.Author.Tests.{not-true, not-false}
-use borrow.Author.Rules.{rules}
 use Rattle.state_text.proofs.reading.line_number.Goals as goal
 
 pub returns-then-not-follows : goal.returns-then-not-follows

@@ -2,7 +2,6 @@ use mathlib.Core.Path.{sym, ◌∙◌}
 use borrow.Author.Tests.{not-true, not-false}
 use Rattle.enforcement.proofs.Answering.{accepted-length}
 use Rattle.state_text.proofs.Loads.{lines-bad, none-broken, one-broken, unlisted}
-use borrow.Author.Rules.{rules}
 use Rattle.state_text.proofs.reading.read_state.Goals as goal
 
 pub returns-then-not-is_accepted : goal.returns-then-not-is_accepted

@@ -9,7 +9,6 @@ use Rattle.forms.proofs.Index.{index-line, likely-found}
 use Rattle.state_text.specs.Entries.{saved_forms}
 use Rattle.state_text.proofs.Values.{forms-distinct, form_starts, index-right}
 use Rattle.state_text.proofs.LineTexts.{line-none, line-outside, line-good}
-use borrow.Author.Rules.{rules}
 use Rattle.state_text.proofs.reading.scan_line.Goals as goal
 
 pub returns-then-form-ge-FORM_COUNT : goal.returns-then-form-ge-FORM_COUNT

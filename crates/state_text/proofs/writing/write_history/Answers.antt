@@ -1,8 +1,5 @@
-use Prim.Native.Nat.{◌≤◌, ◌-◌}
 use native.Mathlib.Omega.{arith}
-use Rattle.state_text.specs.Parts.{history_lines}
-use Rattle.state_text.proofs.Writes.{Loop, start, same, end, history-turn}
-use borrow.Author.Rules.{rules}
+use Rattle.state_text.proofs.Writes.{start, same, end, history-turn}
 use Rattle.state_text.proofs.writing.write_history.Goals as goal
 
 pub loop-i-init : goal.loop-i-init

@@ -1,7 +1,6 @@
 use Rattle.forms.proofs.Index.{index-line}
 use Rattle.state_text.specs.Entries.{saved_forms, line_text}
 use Rattle.state_text.proofs.Values.{form_starts, index-right}
-use borrow.Author.Rules.{rules}
 use Rattle.state_text.proofs.writing.write_line.Goals as goal
 
 pub returns : goal.returns

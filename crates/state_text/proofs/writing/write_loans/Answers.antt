@@ -1,12 +1,11 @@
-use mathlib.Core.Path.{◌≡◌, sym, ap, ◌∙◌}
-use Prim.Native.Nat.{◌≤◌, ◌<◌, ◌-◌}
+use mathlib.Core.Path.{◌≡◌, sym, ap}
+use Prim.Native.Nat.{◌<◌}
 use native.Mathlib.Omega.{arith}
-use lib.ListN.{length, length-map}
+use lib.ListN.{length}
 use Rattle.forms.proofs.Puts.{like}
 use Rattle.loans.proofs.Remaining.{still}
 use Rattle.state_text.specs.Saving.{lines_text}
-use Rattle.state_text.proofs.Writes.{Loop, start, turn, same, one_line, loan_part, Shown, shown-start, shown-turn, shown-end}
-use borrow.Author.Rules.{rules}
+use Rattle.state_text.proofs.Writes.{start, turn, same, one_line, shown-start, shown-turn, shown-end}
 use Rattle.state_text.proofs.writing.write_loans.Goals as goal
 
 pub loop-i-init : goal.loop-i-init

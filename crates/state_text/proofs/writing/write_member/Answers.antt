@@ -2,7 +2,6 @@ use mathlib.Core.Path.{sym, ◌∙◌}
 use native.Mathlib.Omega.{arith}
 use Rattle.state_text.specs.Parts.{member_lines}
 use Rattle.state_text.proofs.Writes.{only_yes, only_no}
-use borrow.Author.Rules.{rules}
 use Rattle.state_text.proofs.writing.write_member.Goals as goal
 
 pub returns-then-member : goal.returns-then-member

@@ -1,7 +1,6 @@
 use native.Mathlib.Omega.{arith}
 use Rattle.state_text.specs.Parts.{open_lines}
 use Rattle.state_text.proofs.Writes.{only_yes, only_no}
-use borrow.Author.Rules.{rules}
 use Rattle.state_text.proofs.writing.write_open.Goals as goal
 
 pub returns-then-is_open : goal.returns-then-is_open

@@ -1,6 +1,5 @@
 use native.Mathlib.Omega.{arith}
 use Rattle.state_text.proofs.Writes.{one_line, no_line}
-use borrow.Author.Rules.{rules}
 use Rattle.state_text.proofs.writing.write_place.Goals as goal
 
 pub returns-in-Unknown : goal.returns-in-Unknown

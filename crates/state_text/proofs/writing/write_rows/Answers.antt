@@ -1,9 +1,5 @@
-use Prim.Native.Nat.{◌≤◌, ◌-◌}
 use native.Mathlib.Omega.{arith}
-use lib.ListN.{length}
-use Rattle.state_text.specs.Parts.{row_lines}
-use Rattle.state_text.proofs.Writes.{Loop, start, same, end, row-turn}
-use borrow.Author.Rules.{rules}
+use Rattle.state_text.proofs.Writes.{start, same, end, row-turn}
 use Rattle.state_text.proofs.writing.write_rows.Goals as goal
 
 pub loop-i-init : goal.loop-i-init

@@ -1,9 +1,7 @@
 use Prim.Native.Nat.{◌≤◌, ◌-◌}
-use native.Mathlib.Omega.{arith}
 use lib.ListN.{length}
 use Rattle.state_text.specs.Parts.{row_lines}
-use Rattle.state_text.proofs.Writes.{Loop, start, same, end, row-turn}
-use borrow.Author.Rules.{rules}
+use Rattle.state_text.proofs.Writes.{Loop}
 use Rattle.state_text.proofs.writing.write_rows.Given as goal
 
 abbrev pub invariant-loop-i : goal.invariant-loop-i

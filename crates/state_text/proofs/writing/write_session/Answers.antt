@@ -1,6 +1,5 @@
 use native.Mathlib.Omega.{arith}
 use Rattle.state_text.proofs.Writes.{session-parts}
-use borrow.Author.Rules.{rules}
 use Rattle.state_text.proofs.writing.write_session.Goals as goal
 
 pub returns : goal.returns

@@ -1,8 +1,5 @@
-use Prim.Native.Nat.{◌≤◌, ◌-◌}
 use native.Mathlib.Omega.{arith}
-use Rattle.state_text.specs.Parts.{session_parts_at}
-use Rattle.state_text.proofs.Writes.{Loop, start, same, end, session-turn}
-use borrow.Author.Rules.{rules}
+use Rattle.state_text.proofs.Writes.{start, same, end, session-turn}
 use Rattle.state_text.proofs.writing.write_sessions.Goals as goal
 
 pub loop-i-init : goal.loop-i-init

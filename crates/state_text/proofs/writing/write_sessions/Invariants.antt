@@ -1,8 +1,6 @@
 use Prim.Native.Nat.{◌≤◌, ◌-◌}
-use native.Mathlib.Omega.{arith}
 use Rattle.state_text.specs.Parts.{session_parts_at}
-use Rattle.state_text.proofs.Writes.{Loop, start, same, end, session-turn}
-use borrow.Author.Rules.{rules}
+use Rattle.state_text.proofs.Writes.{Loop}
 use Rattle.state_text.proofs.writing.write_sessions.Given as goal
 
 abbrev pub invariant-loop-i : goal.invariant-loop-i

@@ -1,8 +1,6 @@
-use Prim.Native.Nat.{◌≤◌, ◌-◌}
 use native.Mathlib.Omega.{arith}
-use Rattle.state_text.specs.Parts.{member_lines, set_lines}
-use Rattle.state_text.proofs.Writes.{Loop, start, turn, same, end, empty-set}
-use borrow.Author.Rules.{rules}
+use Rattle.state_text.specs.Parts.{set_lines}
+use Rattle.state_text.proofs.Writes.{start, turn, same, end, empty-set}
 use Rattle.state_text.proofs.writing.write_set.Goals as goal
 
 pub returns-then-set-eq0 : goal.returns-then-set-eq0

@@ -2,7 +2,6 @@ use mathlib.Core.Path.{sym, ◌∙◌}
 use native.Mathlib.Omega.{arith}
 use borrow.Author.Tests.{not-true, not-false}
 use Rattle.state_text.proofs.Writes.{unaccepted, accepted, too_short, fitting}
-use borrow.Author.Rules.{rules}
 use Rattle.state_text.proofs.writing.write_state.Goals as goal
 
 pub returns-then-not-is_accepted : goal.returns-then-not-is_accepted

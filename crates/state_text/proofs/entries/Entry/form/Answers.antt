@@ -1,5 +1,4 @@
 use Rattle.state_text.specs.Entries.{form_of}
-use borrow.Author.Rules.{rules}
 use Rattle.state_text.proofs.entries.Entry.form.Goals as goal
 
 pub returns-in-Now : goal.returns-in-Now

@@ -2,7 +2,6 @@ use mathlib.Core.Path.{subst}
 use native.Mathlib.Omega.{arith}
 use Rattle.state_text.specs.Entries.{rank}
 use Rattle.state_text.specs.Causes.{Ranged}
-use borrow.Author.Rules.{rules}
 use Rattle.state_text.proofs.entries.Entry.rank.Goals as goal
 
 pub column_rank-requires : goal.column_rank-requires

@@ -1,5 +1,4 @@
 use Rattle.state_text.specs.Parts.{session_of}
-use borrow.Author.Rules.{rules}
 use Rattle.state_text.proofs.entries.Entry.session.Goals as goal
 
 pub returns-in-Now : goal.returns-in-Now
