@@ -1,0 +1,6 @@
+use Rattle.pitch_gate.proofs.Telling.{given}
+use borrow.Author.Rules.{rules}
+use Rattle.pitch_gate.proofs.pitch_gate_copy_state.Goals as goal
+
+pub returns : goal.returns
+returns c = given c.copy_state.ensures c.tell.ensures

@@ -1,0 +1,6 @@
+use Rattle.pitch_gate.proofs.Telling.{given}
+use borrow.Author.Rules.{rules}
+use Rattle.pitch_gate.proofs.pitch_gate_fresh_state.Goals as goal
+
+pub returns : goal.returns
+returns c = given c.fresh_state.ensures c.tell.ensures

@@ -1,0 +1,6 @@
+use Rattle.pitch_gate.proofs.Telling.{responded}
+use borrow.Author.Rules.{rules}
+use Rattle.pitch_gate.proofs.pitch_gate_respond.Goals as goal
+
+pub returns : goal.returns
+returns c = responded c.respond.ensures c.response_report.ensures c.tell.ensures

@@ -1,0 +1,6 @@
+use Rattle.pitch_gate.proofs.Telling.{handed}
+use borrow.Author.Rules.{rules}
+use Rattle.pitch_gate.proofs.pitch_gate_run_steps.Goals as goal
+
+pub returns : goal.returns
+returns c = handed c.run_saved.ensures c.tell.ensures

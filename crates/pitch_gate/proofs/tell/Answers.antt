@@ -1,0 +1,6 @@
+use mathlib.Core.Path.{refl}
+use borrow.Author.Rules.{rules}
+use Rattle.pitch_gate.proofs.tell.Goals as goal
+
+pub returns : goal.returns
+returns c = record { returned = refl; filled = rw c.text_number.ensures }

@@ -1,0 +1,10 @@
+use Rattle.rule_text.proofs.Back.{read-accepted}
+use Rattle.texts.proofs.ListWriting.{list-given}
+use borrow.Author.Rules.{rules}
+use Rattle.texts.proofs.saved_runs.copy_rules.Goals as goal
+
+pub write_list-requires : goal.write_list-requires
+write_list-requires c = rw c.read_rules.ensures (read-accepted _)
+
+pub returns : goal.returns
+returns c = list-given _ _ _ _ c.read_rules.ensures c.write_list.ensures
