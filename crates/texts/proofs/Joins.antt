@@ -3,7 +3,7 @@
 -- Assumes nothing.
 use mathlib.Core.Path.{◌≡◌, refl, sym, ap, ◌∙◌, subst}
 use mathlib.Core.Bool.{Bool, true, false, cond}
-use mathlib.Core.Logic.{◌↔◌, ◌⊎◌, ⊎_elim}
+use mathlib.Core.Logic.{◌↔◌, ⊎_elim}
 use mathlib.Core.List.{List, []}
 use Prim.Native.Nat.{ℕ, suc, ◌+◌, ◌≤◌, ◌<◌}
 use native.Mathlib.Omega.{arith}
@@ -30,7 +30,6 @@ use Rattle.joining.proofs.JoinedLists.{join-refused, join-number, join-kinds, jo
 use Rattle.texts.specs.SavedRuns.{rules_in, refused_report, written_report, output_report, list_report}
 use Rattle.texts.specs.JoinedTexts.{lines_before, line_in, with_line, joined_with, join_report, JoinBad, first_bad, second_bad, rights_differ, too_many}
 use Rattle.texts.specs.declared.saved_runs.Text.{Text}
-use Rattle.texts.specs.declared.saved_runs.Text.TheVariants as Text
 use Rattle.texts.specs.declared.saved_runs.Report.{Report}
 use Rattle.texts.proofs.JoinedTexts.{read_whole}
 use Rattle.texts.proofs.Needed.{output-needed}

@@ -25,7 +25,6 @@ use Rattle.texts.proofs.SavedRunning.{refused-lent, written-lent}
 use Rattle.texts.specs.SavedRuns.{refused_report, written_report, lent_to, output_report, list_report}
 use Rattle.texts.specs.Policies.{refused_text, policies_from_report}
 use Rattle.texts.specs.declared.saved_runs.Text.{Text}
-use Rattle.texts.specs.declared.saved_runs.Text.TheVariants as Text
 use Rattle.texts.specs.declared.saved_runs.Report.{Report}
 
 pub some : {n : ℕ} → (n ≡ 0 → ⊥) → 0 < n

@@ -26,7 +26,6 @@ use Rattle.step_text.specs.Answers.{answers_text}
 use Rattle.texts.specs.SavedRuns.{refused_in, state_under, rules_first, load_texts, rules_in, refused_report, written_report, output_report, list_report, rules_copy_report, saved_report, copy_report, SavedOutcome, saved_outcome, answers_of, state_of, run_report}
 use Rattle.texts.specs.Causes.{RunsSaved, RunRefused, short_answers, short_state}
 use Rattle.texts.specs.declared.saved_runs.Text.{Text}
-use Rattle.texts.specs.declared.saved_runs.Text.TheVariants as Text
 use Rattle.texts.specs.declared.saved_runs.Report.{Report}
 use Rattle.texts.proofs.SavedCauses.{saved-refused, saved-written, saved-runs}
 

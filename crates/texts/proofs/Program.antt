@@ -1,24 +1,24 @@
 -- What the program's response says of its input, and when the lent space is too short. Assumes nothing.
 use mathlib.Core.Path.{◌≡◌, refl, sym, ap, ◌∙◌, subst}
 use mathlib.Core.Bool.{Bool, true, false, cond, false≢true}
-use mathlib.Core.List.{List, [], ◌∷◌}
+use mathlib.Core.List.{List, []}
 use mathlib.Core.Logic.{◌↔◌}
 use Prim.Native.Nat.{ℕ, ◌+◌, ◌≤◌, ◌<◌}
 use native.Mathlib.Omega.{arith}
 use lib.ListN.{length, drop}
 use lib.Dec.{leb, ltb}
-use borrow.Author.Tests.{lt-ltb, le-leb, lt-leb, leb-true, leb-false, ltb-true, ltb-false}
-use Rattle.forms.specs.Writing.{written_of, lent_after}
+use borrow.Author.Tests.{lt-ltb, le-leb, lt-leb, leb-false, ltb-true}
+use Rattle.forms.specs.Writing.{written_of}
 use Rattle.forms.specs.declared.writing.Written.{Written}
 use Rattle.forms.specs.declared.writing.Written.TheVariants.{Length, Refused}
 use Rattle.rules.specs.Acceptance.{list_accepted}
 use Rattle.rules.specs.declared.lists.RuleList.{RuleList}
 use Rattle.steps.specs.declared.steps.Step.{Step}
 use Rattle.rule_text.specs.Lines.{next_line}
-use Rattle.rule_text.specs.Reading.{LinesRead, read_lines, list_of, prefix_of}
+use Rattle.rule_text.specs.Reading.{read_lines, list_of, prefix_of}
 use Rattle.rule_text.proofs.Back.{prefix-accepted}
 use Rattle.step_text.specs.Lines.{StepsRead, steps, bad, read_steps}
-use Rattle.texts.specs.Response.{starts_steps, Outcome, bad_at, ran, steps_outcome, number_without_steps, after_rules, outcome_of, outcome_text, response_of}
+use Rattle.texts.specs.Response.{starts_steps, Outcome, bad_at, ran, steps_outcome, number_without_steps, after_rules, outcome_of, response_of}
 use Rattle.texts.proofs.Responding.{number_small, response-short}
 
 -- ---- 18

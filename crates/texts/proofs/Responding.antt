@@ -1,23 +1,21 @@
 -- The response, as the code puts it together; and how long it can be. Assumes nothing.
 use mathlib.Core.Path.{◌≡◌, refl, sym, ap, ◌∙◌, subst}
 use mathlib.Core.Bool.{Bool, true, false, cond}
-use mathlib.Core.List.{List, [], ◌∷◌, ◌++◌}
+use mathlib.Core.List.{List, []}
 use mathlib.Core.Logic.{◌⊎◌, inl, inr}
-use Prim.Native.Nat.{ℕ, zero, suc, ◌+◌, ◌-◌, ◌*◌, ◌≤◌, ◌<◌}
+use Prim.Native.Nat.{ℕ, zero, suc, ◌+◌, ◌-◌, ◌≤◌, ◌<◌}
 use native.Mathlib.Omega.{arith}
 use lib.ListN.{length, take, drop, length-append, length-drop}
 use lib.Dec.{eqb, ltb}
-use borrow.Author.Tests.{lt-ltb, le-ltb, eq-eqb, ne_eqb, eqb-true, ltb-true, ltb-false}
+use borrow.Author.Tests.{lt-ltb, le-ltb, ne_eqb, eqb-true, ltb-false}
 use Rattle.forms.specs.Numbers.{is_digit}
 use Rattle.forms.specs.Kinds.{is_slot, kind_of, lookup}
 use Rattle.forms.specs.Forms.{text_by, item_text, fill}
 use Rattle.forms.specs.Tables.{lines_in, form_at, found, distinct}
-use Rattle.forms.specs.declared.tables.Found.{Found}
 use Rattle.forms.proofs.Finding.{found-hits}
 use Rattle.forms.proofs.Turns.{rest}
 use Rattle.rules.specs.declared.lists.RuleList.{RuleList}
 use Rattle.enforcement.specs.States.{fresh}
-use Rattle.enforcement.specs.Gate.{run_of}
 use Rattle.enforcement.specs.declared.states.State.{State}
 use Rattle.enforcement.proofs.Kept.{fresh-accepted}
 use Rattle.rule_text.specs.Causes.{Cause}
@@ -31,7 +29,7 @@ use Rattle.step_text.specs.Answers.{bad_text, answers_text}
 use Rattle.step_text.specs.Running.{text_run}
 use Rattle.step_text.proofs.Runs.{Runs, answers-run, Positive, positive}
 use Rattle.step_text.proofs.Sizes.{Sized, sized, answers-short, bad-short}
-use Rattle.texts.specs.Response.{steps_form, starts_steps, Outcome, bad_at, ran, steps_outcome, number_without_steps, after_rules, outcome_of, outcome_text, response_of}
+use Rattle.texts.specs.Response.{steps_form, starts_steps, bad_at, steps_outcome, number_without_steps, after_rules, outcome_of, outcome_text, response_of}
 
 -- ---- the line `(steps)`
 

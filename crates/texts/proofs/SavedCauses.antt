@@ -5,7 +5,7 @@ use mathlib.Core.Path.{◌≡◌, refl, sym, ap, ◌∙◌, subst}
 use mathlib.Core.Bool.{Bool, true, false, cond}
 use mathlib.Core.List.{List, [], ◌∷◌, ◌++◌, append-nil}
 use mathlib.Core.Logic.{◌↔◌, ◌⊎◌, inl, inr, ⊎_elim}
-use Prim.Native.Nat.{ℕ, suc, ◌+◌, ◌-◌, ◌≤◌, ◌<◌}
+use Prim.Native.Nat.{ℕ, suc, ◌-◌, ◌≤◌, ◌<◌}
 use native.Mathlib.Omega.{arith}
 use lib.ListN.{length, length-append}
 use lib.Dec.{ltb, leb}
@@ -48,7 +48,6 @@ use Rattle.step_text.proofs.Sizes.{Sized, sized, answers-short}
 use Rattle.texts.specs.SavedRuns.{holding, refused_in, state_under, rules_first, load_texts, refused_report, written_report, SavedOutcome, ran_from, refused_at, steps_under, saved_outcome, answers_of, state_of, fitted, run_report}
 use Rattle.texts.specs.Causes.{RulesThen, StateCause, state_no_form, state_out_of_range, state_out_of_order, state_unrested, state_thirty_third, state_breaks, TextsHold, RunsSaved, RunWritten, RunRefused, long_steps, bad_rules, bad_state, bad_steps, short_answers, short_state}
 use Rattle.texts.specs.declared.saved_runs.Text.{Text}
-use Rattle.texts.specs.declared.saved_runs.Text.TheVariants as Text
 use Rattle.texts.specs.declared.saved_runs.Report.{Report}
 use Rattle.texts.proofs.SavedRunning.{too_long, texts-refused, texts-held}
 

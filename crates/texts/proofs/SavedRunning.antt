@@ -1,8 +1,8 @@
 -- Steps over a saved state, as the code puts the parts together. Assumes nothing.
-use mathlib.Core.Path.{◌≡◌, refl, sym, ap, ◌∙◌, subst, subst⁻¹}
+use mathlib.Core.Path.{◌≡◌, refl, sym, ap, ◌∙◌, subst⁻¹}
 use mathlib.Core.Bool.{Bool, true, false, cond}
 use mathlib.Core.List.{List, [], ◌∷◌, ◌++◌}
-use Prim.Native.Nat.{ℕ, zero, suc, ◌+◌, ◌≤◌, ◌<◌}
+use Prim.Native.Nat.{ℕ, zero, suc, ◌≤◌, ◌<◌}
 use native.Mathlib.Omega.{arith}
 use lib.ListN.{length, take, drop}
 use lib.Dec.{eqb, leb}
@@ -21,7 +21,6 @@ use Rattle.steps.specs.declared.steps.Step.{Step}
 use Rattle.enforcement.proofs.Reaching.{Good, step-accepted, step-lending}
 use Rattle.rule_text.specs.Reading as rule_text
 use Rattle.rule_text.specs.declared.reading.LoadedRules.{LoadedRules}
-use Rattle.rule_text.proofs.Back.{read-accepted}
 use Rattle.state_text.specs.Reading.{Loading, loaded, refused, unless_broken, under_rules, read_lines, read_state, loaded_of}
 use Rattle.state_text.specs.Saving.{saved_text, written_state, lent_state}
 use Rattle.state_text.specs.declared.reading.LoadedState.{LoadedState}
@@ -40,7 +39,6 @@ use Rattle.forms.proofs.Puts.{measure, at_front}
 use Rattle.texts.proofs.Copying.{kept_whole}
 use Rattle.texts.specs.SavedRuns.{Texts, holding, refused_in, state_under, rules_first, load_texts, loaded_texts, rules_in, refused_report, written_report, lent_to, saved_report, state_in, copy_report, SavedOutcome, ran_from, refused_at, steps_under, steps_after, saved_outcome, answers_of, state_of, fitted, run_report, Ran}
 use Rattle.texts.specs.declared.saved_runs.Text.{Text}
-use Rattle.texts.specs.declared.saved_runs.Text.TheVariants as Text
 use Rattle.texts.specs.declared.saved_runs.LoadedTexts.{LoadedTexts}
 use Rattle.texts.specs.declared.saved_runs.Report.{Report}
 

@@ -23,7 +23,6 @@ use Rattle.step_text.specs.Rows.{Row}
 use Rattle.step_text.specs.Answers.{answers_text}
 use Rattle.step_text.specs.Causes as step
 use Rattle.texts.specs.declared.saved_runs.Text.{Text}
-use Rattle.texts.specs.declared.saved_runs.Text.TheVariants as Text
 
 -- accepted rights, 2026-05: "one line a kind in that order", accepted rules, "numbered from 1 by ones", and what follows them
 pub record RulesThen (text : List ℕ) (rights : List RightSlot) (rules : List Rule) (rest : List ℕ) : Type 0 where

@@ -13,7 +13,6 @@ use Rattle.joining.specs.Claims.{JoinRefused}
 use Rattle.joining.specs.declared.lists.Joined.{Joined}
 use Rattle.texts.specs.SavedRuns.{rules_in, refused_report, list_report}
 use Rattle.texts.specs.declared.saved_runs.Text.{Text}
-use Rattle.texts.specs.declared.saved_runs.Text.TheVariants as Text
 use Rattle.texts.specs.declared.saved_runs.Report.{Report}
 
 -- how many lines the rights of the kinds below one have

@@ -8,7 +8,6 @@ use Rattle.policy_text.specs.declared.writing.WithoutPolicy.{WithoutPolicy}
 use Rattle.policy_text.specs.declared.writing.WithoutPolicy.TheVariants.{Nothing, Lowest}
 use Rattle.texts.specs.SavedRuns.{refused_report, output_report, list_report}
 use Rattle.texts.specs.declared.saved_runs.Text.{Text}
-use Rattle.texts.specs.declared.saved_runs.Text.TheVariants as Text
 use Rattle.texts.specs.declared.saved_runs.Report.{Report}
 
 -- our text from policies

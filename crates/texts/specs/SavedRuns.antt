@@ -16,7 +16,6 @@ use Rattle.state_text.specs.Saving.{saved_text}
 use Rattle.step_text.specs.Lines.{StepsRead, steps, bad, read_steps}
 use Rattle.step_text.specs.Answers.{answers_text}
 use Rattle.texts.specs.declared.saved_runs.Text.{Text}
-use Rattle.texts.specs.declared.saved_runs.Text.TheVariants as Text
 use Rattle.texts.specs.declared.saved_runs.LoadedTexts.{LoadedTexts}
 use Rattle.texts.specs.declared.saved_runs.Report.{Report}
 

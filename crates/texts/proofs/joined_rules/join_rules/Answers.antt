@@ -1,6 +1,5 @@
 use Rattle.texts.proofs.ListWriting.{list-given}
 use Rattle.texts.proofs.JoinedTexts.{first-unread, first_read, read_whole, joined-list-accepted}
-use borrow.Author.Rules.{rules}
 use Rattle.texts.proofs.joined_rules.join_rules.Goals as goal
 
 pub returns-then-read-ne0 : goal.returns-then-read-ne0

@@ -1,6 +1,5 @@
 use native.Mathlib.Omega.{arith}
 use Rattle.texts.proofs.JoinedTexts.{line-58, line-57, line-none}
-use borrow.Author.Rules.{rules}
 use Rattle.texts.proofs.joined_rules.line_in.Goals as goal
 
 pub lines_before-requires : goal.lines_before-requires

@@ -1,8 +1,7 @@
 use mathlib.Core.Path.{refl}
-use Prim.Native.Nat.{◌-◌}
 use native.Mathlib.Omega.{arith}
 use Rattle.rule_text.specs.Lines.{right_lines}
-use Rattle.texts.proofs.JoinedTexts.{Counted, counted-turn, counted-end}
+use Rattle.texts.proofs.JoinedTexts.{counted-turn, counted-end}
 use borrow.Author.Rules.{rules}
 use Rattle.texts.proofs.joined_rules.lines_before.Goals as goal
 

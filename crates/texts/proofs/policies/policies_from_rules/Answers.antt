@@ -1,5 +1,4 @@
 use mathlib.Core.Path.{sym, ◌∙◌}
-use borrow.Author.Rules.{rules}
 use Rattle.rule_text.proofs.Back.{read-accepted}
 use Rattle.texts.proofs.ListWriting.{unread, policies-refused, policies-written}
 use Rattle.texts.proofs.policies.policies_from_rules.Goals as goal

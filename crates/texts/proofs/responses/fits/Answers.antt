@@ -2,7 +2,6 @@ use mathlib.Core.Path.{ap}
 use Prim.Native.Nat.{ℕ}
 use lib.Dec.{leb}
 use Rattle.texts.proofs.Measuring.{room-enough}
-use borrow.Author.Rules.{rules}
 use Rattle.texts.proofs.responses.fits.Goals as goal
 
 pub returns-then-room-ge-ROOM : goal.returns-then-room-ge-ROOM

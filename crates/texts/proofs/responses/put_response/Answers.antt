@@ -1,4 +1,4 @@
-use mathlib.Core.Path.{◌≡◌, refl, sym, ◌∙◌}
+use mathlib.Core.Path.{refl, sym, ◌∙◌}
 use mathlib.Core.List.{List}
 use Prim.Native.Nat.{ℕ, ◌-◌, ◌≤◌}
 use native.Mathlib.Omega.{arith}
@@ -7,7 +7,6 @@ use borrow.Author.Tests.{not-true, not-false}
 use Rattle.forms.proofs.Puts.{like}
 use Rattle.forms.proofs.Turns.{rest}
 use Rattle.texts.proofs.Responding.{starts-room, line-most, prefix-line, prefix-within, too_long, response-without, response-with}
-use borrow.Author.Rules.{rules}
 use Rattle.texts.proofs.responses.put_response.Goals as goal
 
 -- what is left of a short input is short

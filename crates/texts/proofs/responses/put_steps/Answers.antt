@@ -1,7 +1,6 @@
 use native.Mathlib.Omega.{arith}
 use Rattle.forms.proofs.Puts.{like}
 use Rattle.texts.proofs.Responding.{steps-answered, steps-refused, bad-most}
-use borrow.Author.Rules.{rules}
 use Rattle.texts.proofs.responses.put_steps.Goals as goal
 
 pub returns-then-bad-eq0 : goal.returns-then-bad-eq0

@@ -1,5 +1,4 @@
 use Rattle.texts.proofs.Measuring.{measured}
-use borrow.Author.Rules.{rules}
 use Rattle.texts.proofs.responses.response_length.Goals as goal
 
 pub returns : goal.returns

@@ -1,8 +1,7 @@
-use mathlib.Core.Path.{◌≡◌, ap}
+use mathlib.Core.Path.{ap}
 use lib.Dec.{eqb}
 use Rattle.forms.specs.declared.tables.Found.{Found}
 use Rattle.texts.specs.Response.{steps_form, starts_steps}
-use borrow.Author.Rules.{rules}
 use Rattle.texts.proofs.responses.starts_steps.Goals as goal
 
 pub returns : goal.returns

@@ -1,6 +1,5 @@
 use Rattle.rule_text.proofs.Back.{read-accepted}
 use Rattle.texts.proofs.ListWriting.{list-given}
-use borrow.Author.Rules.{rules}
 use Rattle.texts.proofs.saved_runs.copy_rules.Goals as goal
 
 pub write_list-requires : goal.write_list-requires

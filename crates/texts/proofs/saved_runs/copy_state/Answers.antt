@@ -1,5 +1,4 @@
 use Rattle.texts.proofs.SavedRunning.{loaded-refused, loaded-holding, copied, uncopied}
-use borrow.Author.Rules.{rules}
 use Rattle.texts.proofs.saved_runs.copy_state.Goals as goal
 
 pub returns-then-loaded-ne0 : goal.returns-then-loaded-ne0

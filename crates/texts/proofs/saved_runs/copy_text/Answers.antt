@@ -1,7 +1,5 @@
-use Prim.Native.Nat.{◌-◌}
 use native.Mathlib.Omega.{arith}
-use lib.ListN.{length}
-use Rattle.texts.proofs.Copying.{Copied, copy_start, copy-turn, copy-length, copy-end}
+use Rattle.texts.proofs.Copying.{copy_start, copy-turn, copy-length, copy-end}
 use Rattle.texts.proofs.saved_runs.copy_text.Goals as goal
 
 pub loop-i-init : goal.loop-i-init

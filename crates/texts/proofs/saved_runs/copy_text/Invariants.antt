@@ -1,7 +1,6 @@
 use Prim.Native.Nat.{◌-◌}
-use native.Mathlib.Omega.{arith}
 use lib.ListN.{length}
-use Rattle.texts.proofs.Copying.{Copied, copy_start, copy-turn, copy-length, copy-end}
+use Rattle.texts.proofs.Copying.{Copied}
 use Rattle.texts.proofs.saved_runs.copy_text.Given as goal
 
 abbrev pub invariant-loop-i : goal.invariant-loop-i

@@ -1,8 +1,4 @@
-use mathlib.Core.Path.{subst}
-use mathlib.Core.List.{List}
-use Prim.Native.Nat.{ℕ}
 use Rattle.enforcement.proofs.Kept.{fresh-accepted}
-use borrow.Author.Rules.{rules}
 use Rattle.texts.proofs.saved_runs.fresh_state.Goals as goal
 
 pub write_saved-requires : goal.write_saved-requires

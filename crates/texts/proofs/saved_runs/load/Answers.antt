@@ -1,9 +1,7 @@
-use mathlib.Core.Path.{sym, ap, ◌∙◌}
+use mathlib.Core.Path.{ap, ◌∙◌}
 use Rattle.enforcement.specs.declared.states.State.{State}
 use Rattle.texts.specs.declared.saved_runs.Text.TheVariants as Text
-use Rattle.texts.specs.declared.saved_runs.LoadedTexts.{LoadedTexts}
 use Rattle.texts.proofs.SavedRunning.{rules-refused, rules-loaded}
-use borrow.Author.Rules.{rules}
 use Rattle.texts.proofs.saved_runs.load.Goals as goal
 
 pub returns-then-read-ne0 : goal.returns-then-read-ne0

@@ -1,7 +1,6 @@
 use mathlib.Core.Path.{sym, ◌∙◌}
 use native.Mathlib.Omega.{arith}
 use Rattle.texts.proofs.SavedRunning.{loaded-refused, loaded-holding, too_long, texts-refused, texts-held, steps-refused, refused-ran, like-ran}
-use borrow.Author.Rules.{rules}
 use Rattle.texts.proofs.saved_runs.run_saved.Goals as goal
 
 pub returns-then-steps-gt-MOST_BYTES : goal.returns-then-steps-gt-MOST_BYTES

@@ -1,7 +1,5 @@
 use mathlib.Core.Path.{sym, ◌∙◌}
-use native.Mathlib.Omega.{arith}
 use Rattle.texts.proofs.SavedRunning.{no_room, no-state-room, both-written, kept-answers}
-use borrow.Author.Rules.{rules}
 use Rattle.texts.proofs.saved_runs.run_steps.Goals as goal
 
 pub returns-then-answers-size : goal.returns-then-answers-size

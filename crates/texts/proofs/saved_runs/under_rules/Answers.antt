@@ -1,5 +1,4 @@
 use Rattle.texts.proofs.SavedRunning.{state-refused, state-loaded}
-use borrow.Author.Rules.{rules}
 use Rattle.texts.proofs.saved_runs.under_rules.Goals as goal
 
 pub returns-then-read-ne0 : goal.returns-then-read-ne0

@@ -2,7 +2,6 @@ use mathlib.Core.Path.{sym}
 use native.Mathlib.Omega.{arith}
 use lib.Seq.{length-take-le}
 use Rattle.forms.proofs.Puts.{like}
-use borrow.Author.Rules.{rules}
 use Rattle.texts.proofs.saved_runs.write_answers.Goals as goal
 
 pub slice_bounds-copy_text-end : goal.slice_bounds-copy_text-end

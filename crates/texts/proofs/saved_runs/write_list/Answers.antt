@@ -1,6 +1,5 @@
 use mathlib.Core.Path.{sym, ◌∙◌}
 use Rattle.texts.proofs.ListWriting.{list-refused, list-short, list_written}
-use borrow.Author.Rules.{rules}
 use Rattle.texts.proofs.saved_runs.write_list.Goals as goal
 
 pub returns-then-read-ne0 : goal.returns-then-read-ne0

@@ -1,6 +1,5 @@
 use mathlib.Core.Path.{sym, ◌∙◌}
 use Rattle.texts.proofs.SavedRunning.{saved-refused, saved-written}
-use borrow.Author.Rules.{rules}
 use Rattle.texts.proofs.saved_runs.write_saved.Goals as goal
 
 pub returns-in_default : goal.returns-in_default
