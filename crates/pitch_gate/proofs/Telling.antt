@@ -10,7 +10,7 @@ use borrow.Author.Tests.{eq-eqb, ne_eqb}
 use Rattle.forms.specs.Writing.{written_of, lent_after}
 use Rattle.forms.specs.declared.writing.Written.{Written}
 use Rattle.forms.specs.declared.writing.Written.TheVariants.{Length, Refused}
-use Rattle.texts.specs.SavedRuns.{Texts, holding, refused_in, load_texts, loaded_texts, rules_in, refused_report, written_report, lent_to, output_report, SavedOutcome, run_report, Ran}
+use Rattle.texts.specs.SavedRuns.{load_texts, loaded_texts, rules_in, refused_report, written_report, lent_to, output_report, SavedOutcome, Ran}
 use Rattle.texts.specs.declared.saved_runs.Text.TheVariants as Text
 use Rattle.texts.specs.declared.saved_runs.LoadedTexts.{LoadedTexts}
 use Rattle.texts.specs.declared.saved_runs.Report.{Report}

@@ -6,7 +6,6 @@ use Rattle.forms.specs.declared.writing.Written.TheVariants.{Length, Refused}
 use Rattle.rule_text.specs.declared.reading.LoadedRules.{LoadedRules}
 use Rattle.texts.specs.SavedRuns.{Texts, holding, refused_in, refused_report, written_report, lent_to, SavedOutcome, answers_of, state_of, run_report}
 use Rattle.texts.specs.declared.saved_runs.Text.{Text}
-use Rattle.texts.specs.declared.saved_runs.Text.TheVariants as Text
 use Rattle.texts.specs.declared.saved_runs.Report.{Report}
 
 -- 2.4.0

@@ -1,8 +1,6 @@
 use mathlib.Core.Path.{ap, ◌∙◌}
-use Rattle.rule_text.specs.declared.reading.LoadedRules.{LoadedRules}
 use Rattle.pitch_gate.specs.Reports.{rules_report}
 use Rattle.pitch_gate.proofs.Telling.{told}
-use borrow.Author.Rules.{rules}
 use Rattle.pitch_gate.proofs.pitch_gate_check_rules.Goals as goal
 
 pub returns : goal.returns

@@ -1,6 +1,5 @@
 use mathlib.Core.Path.{◌∙◌}
 use Rattle.pitch_gate.proofs.Telling.{told, texts-told}
-use borrow.Author.Rules.{rules}
 use Rattle.pitch_gate.proofs.pitch_gate_check_state.Goals as goal
 
 pub returns : goal.returns

@@ -1,5 +1,4 @@
 use Rattle.pitch_gate.proofs.Telling.{given}
-use borrow.Author.Rules.{rules}
 use Rattle.pitch_gate.proofs.pitch_gate_rules_from_policies.Goals as goal
 
 pub returns : goal.returns

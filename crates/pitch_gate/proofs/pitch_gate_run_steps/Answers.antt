@@ -1,5 +1,4 @@
 use Rattle.pitch_gate.proofs.Telling.{handed}
-use borrow.Author.Rules.{rules}
 use Rattle.pitch_gate.proofs.pitch_gate_run_steps.Goals as goal
 
 pub returns : goal.returns

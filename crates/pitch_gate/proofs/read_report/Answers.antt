@@ -1,6 +1,5 @@
 use mathlib.Core.Path.{◌∙◌}
 use borrow.Author.Tests.{eq-eqb, ne_eqb}
-use borrow.Author.Rules.{rules}
 use Rattle.pitch_gate.proofs.read_report.Goals as goal
 
 pub returns-then-number-eq0 : goal.returns-then-number-eq0

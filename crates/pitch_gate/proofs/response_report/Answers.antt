@@ -6,7 +6,6 @@ use Rattle.texts.specs.Response.{response_of}
 use Rattle.texts.specs.SavedRuns.{refused_report}
 use Rattle.texts.specs.declared.saved_runs.Text.TheVariants as Text
 use Rattle.pitch_gate.specs.Reports.{response_report}
-use borrow.Author.Rules.{rules}
 use Rattle.pitch_gate.proofs.response_report.Goals as goal
 
 pub returns-in-Length : goal.returns-in-Length

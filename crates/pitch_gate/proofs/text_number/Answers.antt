@@ -1,6 +1,5 @@
 use mathlib.Core.Path.{sym, ap}
 use Rattle.pitch_gate.specs.Reports.{text_number}
-use borrow.Author.Rules.{rules}
 use Rattle.pitch_gate.proofs.text_number.Goals as goal
 
 pub returns-in-None : goal.returns-in-None
