@@ -1,5 +1,5 @@
 -- One answer as one number: its refusal's number, the rule, the number selected and the number ended. That a number taken apart gives
--- the answer back is `Word-back` of proofs/AnswerWords.antt.
+-- the answer back is `word_back` of proofs/AnswerWords.antt.
 -- Assumes nothing.
 use Rattle.std.specs.Prelude.{ℕ, ◌+◌, ◌*◌, ◌/◌, ◌%◌, ◌<◌, ◌≡◌, cond, eqb}
 use Rattle.steps.specs.declared.answers.Answer.{Answer}
