@@ -1,4 +1,6 @@
 // How a case writes its text: in quotes, with a backslash before the name of a byte that does not show.
+ghost use Rattle.std.specs.Prelude.{◌<◌, IfSome, length};
+
 use std::io;
 
 // The word stands at the front.
@@ -41,7 +43,9 @@ pub(crate) fn text_of(arguments: &[u8], out: &mut [u8]) -> usize {
     place
 }
 
-fn next_quote(text: &[u8]) -> Option<usize> {
+fn next_quote(text: &[u8]) -> Option<usize>
+    ensures { IfSome result (λ quote. quote < length text.now) }
+{
     text.iter().position(|byte| *byte == b'"')
 }
 
