@@ -6,39 +6,38 @@
 ghost use Rattle.std.specs.Prelude.{◌≤◌};
 
 use calendar::{Date, DateFound, DayFound, Term};
+use std::io;
 
-fn main() {
-    line(b"weekday ", sum(0));
-    line(b"year ", sum(1));
-    line(b"month ", sum(2));
-    line(b"day ", sum(3));
-    line(b"there and back ", sum(4));
-    line(b"dates 20040229 20961231 ", sum(5));
-    line(b"week 1 5 0700 1900 ", sum(6));
-    line(b"week 6 2 0000 2400 ", sum(7));
-    line(b"week 5 5 2200 0600 ", sum(8));
-    line(b"week 6 1 2200 0600 ", sum(9));
-    line(b"months 4 9 ", sum(10));
-    line(b"months 11 2 ", sum(11));
-    line(b"nth 2 1 ", sum(12));
-    line(b"nth 5 7 ", sum(13));
-    line(b"every 14 20000229 ", sum(14));
-    line(b"every 1000 20991231 ", sum(15));
-    line(b"dates 20010229 20991231 ", sum(16));
-    line(b"months 0 12 ", sum(17));
+fn main(rt: HostRuntime) -> io::Result<()> {
+    line(&rt, "weekday", sum(0))?;
+    line(&rt, "year", sum(1))?;
+    line(&rt, "month", sum(2))?;
+    line(&rt, "day", sum(3))?;
+    line(&rt, "there and back", sum(4))?;
+    line(&rt, "dates 20040229 20961231", sum(5))?;
+    line(&rt, "week 1 5 0700 1900", sum(6))?;
+    line(&rt, "week 6 2 0000 2400", sum(7))?;
+    line(&rt, "week 5 5 2200 0600", sum(8))?;
+    line(&rt, "week 6 1 2200 0600", sum(9))?;
+    line(&rt, "months 4 9", sum(10))?;
+    line(&rt, "months 11 2", sum(11))?;
+    line(&rt, "nth 2 1", sum(12))?;
+    line(&rt, "nth 5 7", sum(13))?;
+    line(&rt, "every 14 20000229", sum(14))?;
+    line(&rt, "every 1000 20991231", sum(15))?;
+    line(&rt, "dates 20010229 20991231", sum(16))?;
+    line(&rt, "months 0 12", sum(17))
 }
 
-fn line(label: &[u8], n: u64) {
-    io::write_all(1, label);
-    io::print_decimal(1, n);
-    io::write_all(1, b"\n");
+fn line(rt: &impl Print, label: &str, n: u64) -> io::Result<()> {
+    println!(rt; "{label} {n}")
 }
 
 // The sum over all days of the numbered part or term.
 fn sum(which: u64) -> u64 {
     let mut total: u64 = 0;
     for day in 0..36525 {
-        total = std::num::wrapping_add_u64(total, value(which, day) % 1000000 * (day % 997 + 1));
+        total = total.wrapping_add(value(which, day) % 1000000 * (day % 997 + 1));
     }
     total
 }

@@ -12,6 +12,7 @@ use enforcement::{Ran, Session, State};
 use loans::Loan;
 use places::{Shape, Side};
 use rules::{Right, RightSlot, Rule, RuleList, Slot};
+use std::io::{self, Read};
 use steps::{Acting, Step};
 
 // The state, the generator's seed and the checksum after some batches.
@@ -34,27 +35,28 @@ struct Drawn {
     seed: u64,
 }
 
-fn main() {
-    let mut input = [0u8; 3];
-    io::read_full(0, &mut input);
+fn main(rt: HostRuntime) -> io::Result<()> {
+    let mut input = Vec::new(rt.alloc());
+    rt.reader().take(3).read_to_end(&mut input)?;
+    // What is missing counts as 0.
+    input.resize(3, 0)?;
     if input[0] < b'0' {
-        line(sum_of(0, 16, true));
-        line(sum_of(1, 16, true));
-        line(sum_of(2, 16, true));
-        line(sum_of(3, 16, true));
-        line(sum_of(4, 16, true));
-        line(sum_of(5, 16, true));
-        show_short_room();
-        return;
+        line(&rt, sum_of(0, 16, true))?;
+        line(&rt, sum_of(1, 16, true))?;
+        line(&rt, sum_of(2, 16, true))?;
+        line(&rt, sum_of(3, 16, true))?;
+        line(&rt, sum_of(4, 16, true))?;
+        line(&rt, sum_of(5, 16, true))?;
+        return show_short_room(&rt);
     }
     let which = wide(input[0]) % 16;
     let batches = wide(input[1]) % 32 * 128;
-    line(sum_of(which, batches, input[2] == b'r'));
+    line(&rt, sum_of(which, batches, input[2] == b'r'))
 }
 
 // One entry too few for the steps: 18, and each entry and the state stay. It prints the number, the checksum of the entries handed in and
 // of those handed back, and the same of the state.
-fn show_short_room() {
+fn show_short_room(rt: &impl Print) -> io::Result<()> {
     let list = rules_of(5);
     let going = going_after(5, 16, true);
     let before = going.state;
@@ -65,16 +67,15 @@ fn show_short_room() {
     let entries = with_entries(0, &few);
     let refused = run_batch(steps, 256, list, before, &mut few);
     let after = refused.state;
-    line(refused.number);
-    line(entries);
-    line(with_entries(0, &few));
-    line(with_state(before));
-    line(with_state(after));
+    line(rt, refused.number)?;
+    line(rt, entries)?;
+    line(rt, with_entries(0, &few))?;
+    line(rt, with_state(before))?;
+    line(rt, with_state(after))
 }
 
-fn line(n: u64) {
-    io::print_decimal(1, n);
-    io::write_all(1, b"\n");
+fn line(rt: &impl Print, n: u64) -> io::Result<()> {
+    println!(rt; "{n}")
 }
 
 fn wide(byte: u8) -> u64 {

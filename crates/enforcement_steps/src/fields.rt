@@ -1,16 +1,21 @@
 // A state by its lines, in the forms of a saved text and with any number: nothing is refused here.
-use crate::number;
 use enforcement::{Session, State};
 use forms::Number;
 use loans::{Loan, Loans};
 use places::{Point, Position};
 use sets::word32;
+use std::io;
 
 // The state with one line more; the forms are those of the table.
-pub(crate) fn with_line(state: State, form: usize, values: &[u64; 6]) -> State {
+pub(crate) fn with_line(
+    rt: &impl Print,
+    state: State,
+    form: usize,
+    values: &[u64; 6],
+) -> io::Result<State> {
     let first = values[0] as usize;
     let second = values[1];
-    match form {
+    let after = match form {
         0 => State::fresh(),
         1 => with_time(state, values[0]),
         2 => with_all_assigned(state, narrow(values[0])),
@@ -21,9 +26,9 @@ pub(crate) fn with_line(state: State, form: usize, values: &[u64; 6]) -> State {
         7 => with_active(state, first, second as usize),
         8 => with_loan(state, loan_of(values)),
         9 => with_loan_count(state, first),
-        10 => shown_time(state),
-        11 => shown_loan_count(state),
-        12 => shown_loan(state, first),
+        10 => shown_time(rt, state)?,
+        11 => shown_loan_count(rt, state)?,
+        12 => shown_loan(rt, state, first)?,
         19 => with_place(
             state,
             first,
@@ -32,33 +37,35 @@ pub(crate) fn with_line(state: State, form: usize, values: &[u64; 6]) -> State {
             narrow(values[3]),
         ),
         _ => state,
-    }
+    };
+    Ok(after)
 }
 
-fn shown_time(state: State) -> State {
-    number(state.time);
-    state
+fn shown_time(rt: &impl Print, state: State) -> io::Result<State> {
+    print!(rt; " {}", state.time)?;
+    Ok(state)
 }
 
-fn shown_loan_count(state: State) -> State {
+fn shown_loan_count(rt: &impl Print, state: State) -> io::Result<State> {
     let loans = state.loans;
-    number(loans.count as u64);
-    state
+    print!(rt; " {}", loans.count)?;
+    Ok(state)
 }
 
 // What stands in an entry, also past the loans that there are: lender, borrower, role and time.
-fn shown_loan(state: State, entry: usize) -> State {
+fn shown_loan(rt: &impl Print, state: State, entry: usize) -> io::Result<State> {
     if Loans::MOST <= entry {
-        return state;
+        return Ok(state);
     }
     let loans = state.loans;
-    let loan = loans.entries[entry];
-    io::write_all(1, b":");
-    number(loan.lender as u64);
-    number(loan.borrower as u64);
-    number(loan.role as u64);
-    number(loan.until as u64);
-    state
+    let Loan {
+        until,
+        lender,
+        borrower,
+        role,
+    } = loans.entries[entry];
+    print!(rt; ": {lender} {borrower} {role} {until}")?;
+    Ok(state)
 }
 
 fn narrow(value: u64) -> u32 {

@@ -9,6 +9,7 @@ mod slots;
 
 use enforcement::State;
 use rules::RuleList;
+use std::io::{self, Read};
 use step_text::StepRead;
 use steps::{Answer, Step};
 
@@ -45,82 +46,79 @@ right ? ?\n";
 
 const LINE_COUNT: usize = 21;
 
-fn main() {
-    let mut input = io::large_buffer();
-    let length = io::read_full(0, &mut input);
-    each(&input[..length]);
+fn main(rt: HostRuntime) -> io::Result<()> {
+    let mut input = Vec::new(rt.alloc());
+    rt.reader().take(65_536).read_to_end(&mut input)?;
+    each(&rt, &input)
 }
 
 // Each line as it stands, with what came of it.
-fn each(text: &[u8]) {
+fn each(rt: &impl Print, text: &[u8]) -> io::Result<()> {
     let mut given = Given {
         list: slots::no_rules(),
         state: State::fresh(),
     };
     let mut rest = text;
-    while 0 < rest.len() {
-        let end = bytes::scan::find(rest, 0, rest.len(), b'\n');
-        if end == rest.len() {
-            return;
-        }
-        given = shown(given, rest, &rest[..end]);
+    while let Some(end) = rest.iter().position(|byte| *byte == b'\n') {
+        given = shown(rt, given, rest, &rest[..end])?;
         let next = end + 1;
         rest = &rest[next..];
     }
+    Ok(())
 }
 
 // The line at the front of a text, and what came of it.
-fn shown(given: Given, text: &[u8], line: &[u8]) -> Given {
-    io::write_all(1, line);
-    let after = taken(given, text, line);
-    io::write_all(1, b"\n");
-    after
+fn shown(rt: &impl Print, given: Given, text: &[u8], line: &[u8]) -> io::Result<Given> {
+    rt.write_all(line)?;
+    let after = taken(rt, given, text, line)?;
+    println!(rt)?;
+    Ok(after)
 }
 
 // A step, a line of the table, or another.
-fn taken(given: Given, text: &[u8], line: &[u8]) -> Given {
+fn taken(rt: &impl Print, given: Given, text: &[u8], line: &[u8]) -> io::Result<Given> {
     let StepRead::Good(good) = step_text::read_step(text) else {
-        return set(given, text, line);
+        return set(rt, given, text, line);
     };
     let step = good.step;
-    decided(given, step)
+    decided(rt, given, step)
 }
 
-fn decided(given: Given, step: Step) -> Given {
+fn decided(rt: &impl Print, given: Given, step: Step) -> io::Result<Given> {
     let list = given.list;
     let state = given.state;
     let next = state.step(list, step);
     let answer = next.answer;
-    show_answer(answer);
+    show_answer(rt, answer)?;
     let state = next.state;
-    Given { list, state }
+    Ok(Given { list, state })
 }
 
 // A line of the table changes the list or the state, and leaves the other.
-fn set(given: Given, text: &[u8], line: &[u8]) -> Given {
+fn set(rt: &impl Print, given: Given, text: &[u8], line: &[u8]) -> io::Result<Given> {
     let found = forms::find(&LINES, text);
     let form = found.form;
     let values = found.values;
     if LINE_COUNT <= form {
-        return other(given, text, line);
+        return other(rt, given, text, line);
     }
     let list = given.list;
     let state = given.state;
-    Given {
+    Ok(Given {
         list: slots::with_line(list, form, &values),
-        state: fields::with_line(state, form, &values),
-    }
+        state: fields::with_line(rt, state, form, &values)?,
+    })
 }
 
 // By its first byte: nothing comes of a comment or an empty line.
-fn other(given: Given, text: &[u8], line: &[u8]) -> Given {
+fn other(rt: &impl Print, given: Given, text: &[u8], line: &[u8]) -> io::Result<Given> {
     match first_of(text) {
-        b'#' | b'\n' => given,
-        b'(' => ruled(given, text),
-        b'k' => decided(given, numbers::step_of(line)),
-        b'b' => decided(given, numbers::step_by(line)),
-        b'l' => with_length(given, numbers::number_after(1, line)),
-        _ => misplaced(given),
+        b'#' | b'\n' => Ok(given),
+        b'(' => ruled(rt, given, text),
+        b'k' => decided(rt, given, numbers::step_of(line)),
+        b'b' => decided(rt, given, numbers::step_by(line)),
+        b'l' => Ok(with_length(given, numbers::number_after(1, line))),
+        _ => misplaced(rt, given),
     }
 }
 
@@ -132,20 +130,20 @@ fn first_of(text: &[u8]) -> u8 {
 }
 
 // Rule 1 is read with those after it, whose own lines then give nothing.
-fn ruled(given: Given, text: &[u8]) -> Given {
+fn ruled(rt: &impl Print, given: Given, text: &[u8]) -> io::Result<Given> {
     let prefix = rule_text::read_prefix(text);
     if 0 < prefix.length {
         let list = prefix.list;
         let state = given.state;
-        return Given { list, state };
+        return Ok(Given { list, state });
     }
     let found = forms::find(b"(rule ? ", text);
     let values = found.values;
     let list = given.list;
     if (1 < values[0]) & (values[0] <= list.length as u64) {
-        return given;
+        return Ok(given);
     }
-    misplaced(given)
+    misplaced(rt, given)
 }
 
 fn with_length(given: Given, length: u64) -> Given {
@@ -155,31 +153,15 @@ fn with_length(given: Given, length: u64) -> Given {
     Given { list, state }
 }
 
-fn misplaced(given: Given) -> Given {
-    io::write_all(1, b": no line of a case");
-    given
+fn misplaced(rt: &impl Print, given: Given) -> io::Result<Given> {
+    print!(rt; ": no line of a case")?;
+    Ok(given)
 }
 
-fn show_answer(answer: Answer) {
+fn show_answer(rt: &impl Print, answer: Answer) -> io::Result<()> {
     match answer {
-        Answer::Granted { selected, ended } => {
-            io::write_all(1, b": granted");
-            number(selected as u64);
-            number(ended as u64);
-        }
-        Answer::Broken { rule, selected } => {
-            io::write_all(1, b": broken");
-            number(rule as u64);
-            number(selected as u64);
-        }
-        Answer::Refused { number: cause } => {
-            io::write_all(1, b": refused");
-            number(cause as u64);
-        }
+        Answer::Granted { selected, ended } => print!(rt; ": granted {selected} {ended}"),
+        Answer::Broken { rule, selected } => print!(rt; ": broken {rule} {selected}"),
+        Answer::Refused { number } => print!(rt; ": refused {number}"),
     }
-}
-
-pub(crate) fn number(n: u64) {
-    io::write_all(1, b" ");
-    io::print_decimal(1, n);
 }

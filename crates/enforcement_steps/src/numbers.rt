@@ -38,10 +38,10 @@ pub(crate) fn number_after(spaces: u64, line: &[u8]) -> u64 {
         let byte = line[i];
         value = with_byte(value, byte, passed == spaces);
         minus = minus | ((byte == b'-') & (passed == spaces));
-        passed = std::num::wrapping_add_u64(passed, counted(byte == b' '));
+        passed = passed.wrapping_add(counted(byte == b' '));
     }
     if minus {
-        return std::num::wrapping_sub_u64(0, value);
+        return value.wrapping_neg();
     }
     value
 }
@@ -55,7 +55,7 @@ fn with_byte(value: u64, byte: u8, is_read: bool) -> u64 {
         return value;
     }
     let digit = byte - b'0';
-    std::num::wrapping_add_u64(value % 1_844_674_407_370_955_162 * 10, digit as u64)
+    (value % 1_844_674_407_370_955_162 * 10).wrapping_add(digit as u64)
 }
 
 fn counted(is_so: bool) -> u64 {

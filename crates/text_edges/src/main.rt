@@ -9,37 +9,40 @@ mod writing;
 ghost use Rattle.std.specs.Prelude.{◌<◌, ◌≤◌, length};
 
 use reading::Loaded;
+use std::io::{self, Read};
 
 // The kinds of cases, numbered from 0: 0 to 5 load something, 6 to 11 write.
-const KINDS: [u8; 121] = *b"\
-rules:\n\
-saved:\n\
-length:\n\
-time:\n\
-policies:\n\
-join:\n\
-input:\n\
-long input:\n\
-write rules:\n\
-write saved:\n\
-write response:\n\
-write policies:\n";
+const KINDS: [&str; 12] = [
+    "rules:",
+    "saved:",
+    "length:",
+    "time:",
+    "policies:",
+    "join:",
+    "input:",
+    "long input:",
+    "write rules:",
+    "write saved:",
+    "write response:",
+    "write policies:",
+];
 
-fn main() {
-    let mut input = writing::space();
-    let length = io::read_full(0, &mut input);
-    each(&input[..length]);
+fn main(rt: HostRuntime) -> io::Result<()> {
+    let mut input = Vec::new(rt.alloc());
+    rt.reader().take(131_072).read_to_end(&mut input)?;
+    each(&rt, &input)
 }
 
 // Each case is given what those before it loaded.
-fn each(text: &[u8]) {
+fn each(rt: &impl Print, text: &[u8]) -> io::Result<()> {
     let mut loaded = reading::nothing();
     let mut rest = text;
     while 0 < rest.len() {
         let end = case_length(rest);
-        loaded = shown(loaded, &rest[..end]);
+        loaded = shown(rt, loaded, &rest[..end])?;
         rest = &rest[end..];
     }
+    Ok(())
 }
 
 // The bytes of the first line and of the lines after it that start with a space.
@@ -58,48 +61,37 @@ fn case_length(text: &[u8]) -> usize
 }
 
 // What stands before the bar, then what came. A comment, which has no bar, is printed as it stands.
-fn shown(loaded: Loaded, case: &[u8]) -> Loaded {
-    let bar = bytes::scan::find(case, 0, case.len(), b'|');
-    io::write_all(1, quoting::front(case, bar));
-    if bar == case.len() {
-        return loaded;
-    }
-    io::write_all(1, b"| ");
+fn shown(rt: &impl Print, loaded: Loaded, case: &[u8]) -> io::Result<Loaded> {
+    let Some(bar) = case.iter().position(|byte| *byte == b'|') else {
+        rt.write_all(case)?;
+        return Ok(loaded);
+    };
+    rt.write_all(&case[..bar])?;
+    print!(rt; "| ")?;
     let start = bar + 1;
-    let after = answered(loaded, kind_of(case), &case[start..]);
-    io::write_all(1, b"\n");
-    after
+    let after = answered(rt, loaded, kind_of(case), &case[start..])?;
+    println!(rt)?;
+    Ok(after)
 }
 
 // The number of a case's kind; one past the last where it has none of them.
 fn kind_of(case: &[u8]) -> usize {
-    let kinds: &[u8] = &KINDS;
-    let mut kind: usize = 0;
-    let mut at: usize = 0;
-    while at < kinds.len() {
-        let end = bytes::scan::find(kinds, at, kinds.len(), b'\n');
-        if end == kinds.len() {
-            return kind;
-        }
-        if quoting::starts(case, &kinds[at..end]) {
-            return kind;
-        }
-        kind += 1;
-        at = end + 1;
-    }
-    kind
+    KINDS
+        .iter()
+        .position(|word| quoting::starts(case, word.as_bytes()))
+        .unwrap_or(KINDS.len())
 }
 
-fn answered(loaded: Loaded, kind: usize, arguments: &[u8]) -> Loaded {
+fn answered(rt: &impl Print, loaded: Loaded, kind: usize, arguments: &[u8]) -> io::Result<Loaded> {
     let mut space = writing::space();
     let length = quoting::text_of(arguments, &mut space);
     let text = quoting::front(&space, length);
     let number = quoting::number_at(arguments, b" ?", 0);
     if kind < 6 {
-        return reading::loaded_by(loaded, kind, text, number);
+        return reading::loaded_by(rt, loaded, kind, text, number);
     }
-    writing::written(loaded, kind, text, room_of(kind, number));
-    loaded
+    writing::written(rt, loaded, kind, text, room_of(kind, number))?;
+    Ok(loaded)
 }
 
 // An input's response has 1,024 bytes, a long input's all.

@@ -1,4 +1,7 @@
 // How a case writes its text: in quotes, with a backslash before the name of a byte that does not show.
+ghost use Rattle.std.specs.Prelude.{◌<◌, IfSome, length};
+
+use std::io;
 
 // The word stands at the front.
 pub(crate) fn starts(text: &[u8], word: &[u8]) -> bool {
@@ -27,22 +30,23 @@ pub(crate) fn front(text: &[u8], length: usize) -> &[u8] {
 // Puts what stands in quotes, one after the other, at the front of the lent list; its length.
 pub(crate) fn text_of(arguments: &[u8], out: &mut [u8]) -> usize {
     let mut place: usize = 0;
-    let mut from: usize = 0;
-    while from < arguments.len() {
-        let quote = bytes::scan::find(arguments, from, arguments.len(), b'"');
-        if quote == arguments.len() {
+    let mut rest = arguments;
+    while let Some(quote) = next_quote(rest) {
+        let quoted = &rest[quote + 1..];
+        let Some(end) = next_quote(quoted) else {
             return place;
-        }
-        let start = quote + 1;
-        let end = bytes::scan::find(arguments, start, arguments.len(), b'"');
-        if end == arguments.len() {
-            return place;
-        }
-        let times = number_at(&arguments[from..], b" ? \"", 1);
-        place = put_often(&arguments[start..end], times, out, place);
-        from = end + 1;
+        };
+        let times = number_at(rest, b" ? \"", 1);
+        place = put_often(&quoted[..end], times, out, place);
+        rest = &quoted[end + 1..];
     }
     place
+}
+
+fn next_quote(text: &[u8]) -> Option<usize>
+    ensures { IfSome result (λ quote. quote < length text.now) }
+{
+    text.iter().position(|byte| *byte == b'"')
 }
 
 // A quote as often as the number before it says.
@@ -96,19 +100,17 @@ fn byte_of(byte: u8, named: bool) -> u8 {
 }
 
 // A text as a case would write it.
-pub(crate) fn show(text: &[u8]) {
-    io::write_all(1, b"\"");
-    for i in 0..text.len() {
-        show_byte(text[i]);
+pub(crate) fn show(rt: &impl Print, text: &[u8]) -> io::Result<()> {
+    print!(rt; "\"")?;
+    for byte in text {
+        show_byte(rt, *byte)?;
     }
-    io::write_all(1, b"\"");
+    print!(rt; "\"")
 }
 
-fn show_byte(byte: u8) {
+fn show_byte(rt: &impl Print, byte: u8) -> io::Result<()> {
     if byte == b'\n' {
-        io::write_all(1, b"\\n");
-        return;
+        return print!(rt; "\\n");
     }
-    let one = [byte];
-    io::write_all(1, &one);
+    rt.write_all(&[byte])
 }

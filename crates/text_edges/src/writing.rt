@@ -6,6 +6,7 @@ use crate::reading::Loaded;
 use forms::Written;
 use policy_text::PoliciesWritten;
 use rules::RuleList;
+use std::io;
 
 // What a space holds before.
 const UNTOUCHED: u8 = b'.';
@@ -18,46 +19,63 @@ pub(crate) fn space() -> [u8; 131_072]
 }
 
 // Lends the first bytes of a space, and shows what came.
-pub(crate) fn written(loaded: Loaded, kind: usize, text: &[u8], room: usize) {
+pub(crate) fn written(
+    rt: &impl Print,
+    loaded: Loaded,
+    kind: usize,
+    text: &[u8],
+    room: usize,
+) -> io::Result<()> {
     let mut space = space();
-    let written = lend(loaded, kind, text, &mut space, room);
+    let written = lend(rt, loaded, kind, text, &mut space, room)?;
     let front = quoting::front(&space, length_of(written));
     match kind {
-        6 => quoting::show(front),
-        7 => show(written),
-        8..=11 => show_space(written, front, quoting::front(&space, 1024)),
-        _ => no_kind(),
+        6 => quoting::show(rt, front),
+        7 => show(rt, written),
+        8..=11 => show_space(rt, written, front, quoting::front(&space, 1024)),
+        _ => no_kind(rt),
     }
 }
 
-fn lend(loaded: Loaded, kind: usize, text: &[u8], space: &mut [u8], room: usize) -> Written {
+fn lend(
+    rt: &impl Print,
+    loaded: Loaded,
+    kind: usize,
+    text: &[u8],
+    space: &mut [u8],
+    room: usize,
+) -> io::Result<Written> {
     if space.len() < room {
-        return Written::Refused(0);
+        return Ok(Written::Refused(0));
     }
-    written_by(loaded, kind, text, &mut space[..room])
+    written_by(rt, loaded, kind, text, &mut space[..room])
 }
 
-fn written_by(loaded: Loaded, kind: usize, text: &[u8], out: &mut [u8]) -> Written {
+fn written_by(
+    rt: &impl Print,
+    loaded: Loaded,
+    kind: usize,
+    text: &[u8],
+    out: &mut [u8],
+) -> io::Result<Written> {
     let list = loaded.list;
     let state = loaded.state;
     match kind {
-        8 => rule_text::write_rules(list, out),
-        9 => state_text::write_state(state, out),
-        11 => write_policies(list, out),
-        _ => texts::respond(text, out),
+        8 => Ok(rule_text::write_rules(list, out)),
+        9 => Ok(state_text::write_state(state, out)),
+        11 => write_policies(rt, list, out),
+        _ => Ok(texts::respond(text, out)),
     }
 }
 
 // The place of a refusal is shown before its number.
-fn write_policies(list: RuleList, out: &mut [u8]) -> Written {
+fn write_policies(rt: &impl Print, list: RuleList, out: &mut [u8]) -> io::Result<Written> {
     let written = policy_text::write_policies(list, out);
     match written {
-        PoliciesWritten::Length(length) => Written::Length(length),
+        PoliciesWritten::Length(length) => Ok(Written::Length(length)),
         PoliciesWritten::Refused(number, place) => {
-            io::write_all(1, b"place ");
-            io::print_decimal(1, place);
-            io::write_all(1, b", ");
-            Written::Refused(number)
+            print!(rt; "place {place}, ")?;
+            Ok(Written::Refused(number))
         }
     }
 }
@@ -69,30 +87,23 @@ fn length_of(written: Written) -> usize {
     }
 }
 
-fn show(written: Written) {
+fn show(rt: &impl Print, written: Written) -> io::Result<()> {
     match written {
-        Written::Length(length) => {
-            io::write_all(1, b"length ");
-            io::print_decimal(1, length as u64);
-        }
-        Written::Refused(number) => {
-            io::print_decimal(1, number);
-        }
+        Written::Length(length) => print!(rt; "length {length}"),
+        Written::Refused(number) => print!(rt; "{number}"),
     }
 }
 
 // What came, the text, and how many bytes of the space stand untouched after it.
-fn show_space(written: Written, front: &[u8], space: &[u8]) {
-    show(written);
-    io::write_all(1, b" ");
-    quoting::show(front);
-    io::write_all(1, b" ");
-    io::print_decimal(1, untouched(space));
-    io::write_all(1, b" bytes untouched");
+fn show_space(rt: &impl Print, written: Written, front: &[u8], space: &[u8]) -> io::Result<()> {
+    show(rt, written)?;
+    print!(rt; " ")?;
+    quoting::show(rt, front)?;
+    print!(rt; " {} bytes untouched", untouched(space))
 }
 
-fn no_kind() {
-    io::write_all(1, b"no kind of case");
+fn no_kind(rt: &impl Print) -> io::Result<()> {
+    print!(rt; "no kind of case")
 }
 
 // The bytes after the last one that was written.
@@ -106,7 +117,7 @@ fn untouched(space: &[u8]) -> u64 {
 
 fn counted(count: u64, byte: u8) -> u64 {
     if byte == UNTOUCHED {
-        return std::num::wrapping_add_u64(count, 1);
+        return count.wrapping_add(1);
     }
     0
 }

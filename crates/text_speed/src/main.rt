@@ -7,6 +7,7 @@ ghost use Rattle.std.specs.Prelude.{◌≡◌, length};
 
 use forms::Written;
 use rules::{Right, RightSlot, Rule, RuleList, Slot};
+use std::io::{self, Read};
 
 // Document 01's listing.
 const STEPS: [u8; 193] = *b"\
@@ -34,41 +35,44 @@ const SAVED: [u8; 88] = *b"\
 (active 0 1)\n\
 (did 2 7 5)\n";
 
-fn main() {
-    let mut head = [0u8; 2];
-    let got = io::read_full(0, &mut head);
-    if got < 2 {
-        answer_sample();
-        save_sample();
-        return;
+fn main(rt: HostRuntime) -> io::Result<()> {
+    let head = input(&rt, 2)?;
+    let [kind, count] = *head.as_slice() else {
+        answer_sample(&rt)?;
+        return save_sample(&rt);
+    };
+    let times = wide(count) % 64;
+    if kind == b's' {
+        return save_input(&rt, times);
     }
-    let times = wide(head[1]) % 64;
-    if head[0] == b's' {
-        save_input(times);
-        return;
-    }
-    answer_input(times);
+    answer_input(&rt, times)
 }
 
-fn answer_sample() {
+// What the input has next, and no more than so many bytes.
+fn input(rt: &(impl Input + AllocGlobal), most: u64) -> io::Result<Vec<u8>> {
+    let mut input = Vec::new(rt.alloc());
+    rt.reader().take(most).read_to_end(&mut input)?;
+    Ok(input)
+}
+
+fn answer_sample(rt: &impl Print) -> io::Result<()> {
     let mut output = [0u8; 256];
     let length = answer_often(&STEPS, &mut output, 2);
-    show(&output, length);
+    show(rt, &output, length)
 }
 
-fn save_sample() {
+fn save_sample(rt: &impl Print) -> io::Result<()> {
     let mut output = [0u8; 256];
     let length = save_often(&SAVED, &mut output, 2);
-    show(&output, length);
+    show(rt, &output, length)
 }
 
 // One byte more than the program takes, so that a longer input is seen. No line is shorter than three fifths of its answer's.
-fn answer_input(times: u64) {
-    let mut input = [0u8; 65_537];
+fn answer_input(rt: &(impl Input + Print + AllocGlobal), times: u64) -> io::Result<()> {
+    let input = input(rt, 65_537)?;
     let mut output = [0u8; 131_072];
-    let got = io::read_full(0, &mut input);
-    let length = answer_often(&input[..got], &mut output, times);
-    show(&output, length);
+    let length = answer_often(&input, &mut output, times);
+    show(rt, &output, length)
 }
 
 // Room for the text of a state in which everything is set. The contract gives the length, which lending it needs.
@@ -78,12 +82,11 @@ fn room() -> [u8; 1_048_576]
     [0; 1_048_576]
 }
 
-fn save_input(times: u64) {
-    let mut input = room();
+fn save_input(rt: &(impl Input + Print + AllocGlobal), times: u64) -> io::Result<()> {
+    let input = input(rt, 1_048_576)?;
     let mut output = room();
-    let got = io::read_full(0, &mut input);
-    let length = save_often(&input[..got], &mut output, times);
-    show(&output, length);
+    let length = save_often(&input, &mut output, times);
+    show(rt, &output, length)
 }
 
 // The length of the answers; each time they are written over the last.
@@ -126,11 +129,9 @@ fn no_rules() -> RuleList {
     }
 }
 
-fn show(text: &[u8], length: usize) {
-    io::print_decimal(1, checksum(text, length));
-    io::write_all(1, b" ");
-    io::print_decimal(1, length as u64);
-    io::write_all(1, b"\n");
+fn show(rt: &impl Print, text: &[u8], length: usize) -> io::Result<()> {
+    let sum = checksum(text, length);
+    println!(rt; "{sum} {length}")
 }
 
 // Of the first bytes of a text.
