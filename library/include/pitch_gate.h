@@ -60,8 +60,9 @@
  *   code and tables, no data that is written. Stack: PITCH_GATE_STACK_MOST. The archive is
  *   crates/pitch_gate/out/libpitch_gate.a, which `rt lib --cpu=x86-64`, run in crates/pitch_gate, proves and writes.
  *   Cost of a call, as measured with an older compiler on one core of a server (docs/SPEED.md says how): one step takes about
- *   10 microseconds with 7 rules and a saved state of 15 lines, 30 with 128 rules, and 6 milliseconds with 128 rules and a full saved state. Nearly
- *   all of it is reading and writing the texts; a further step in the same call takes less than a microsecond.
+ *   10 microseconds with 7 rules and a saved state of 15 lines, 30 with 128 rules, and 6 milliseconds with 128 rules and a
+ *   full saved state. Nearly all of it is reading and writing the texts; a further step in the same call takes less than a
+ *   microsecond.
  *
  * Version
  *   PITCH_GATE_VERSION is 10,000 times the major version, 100 times the minor one, and the third number. With the same major
