@@ -16,7 +16,7 @@ BATCH = 256
 # A multiple of 128 below 4096: how crates/enforcement_speed takes it.
 BATCHES = 1024
 FOLDER = 'target/bench'
-OURS = {'lists': 'target/bin/enforcement_speed', 'texts': 'target/bin/text_speed'}
+OURS = {'lists': 'crates/enforcement_speed/out/enforcement_speed', 'texts': 'crates/text_speed/out/text_speed'}
 
 
 class Command(NamedTuple):
@@ -47,7 +47,7 @@ def main():
         report.read_page()
     for program in OURS.values():
         if not os.path.exists(program):
-            sys.exit(f'{program} is missing: rt check {os.path.basename(program)}')
+            sys.exit(f'{program} is missing: rt run < /dev/null in crates/{os.path.basename(program)}')
     load = os.getloadavg()[0]
     if load > 0.5:
         print(f'other work is running (load {load:.1f}): the numbers are not those of an idle machine', file=sys.stderr)

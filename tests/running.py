@@ -8,6 +8,8 @@ import sys
 import tempfile
 
 ROOT = pathlib.Path(__file__).resolve().parent.parent
+GATE = ROOT / "crates/gate/out/gate"
+ARCHIVE = ROOT / "crates/pitch_gate/out/libpitch_gate.a"
 EXAMPLES = ROOT / "library/rust/target/debug/examples"
 STRICT = "-Wall -Wextra -Wpedantic -Werror -I library/include".split()
 
@@ -20,7 +22,7 @@ def build_examples():
 
 
 def compile_c(source, program, *flags):
-    run(["cc", *STRICT, "-std=c11", *flags, source, "target/staticlib/libpitch_gate.a", "-o", program])
+    run(["cc", *STRICT, "-std=c11", *flags, source, str(ARCHIVE), "-o", program])
 
 
 def run(command):
@@ -29,8 +31,11 @@ def run(command):
 
 
 def respond(text):
-    """What the program prints for an input."""
-    return subprocess.run([ROOT / "target/bin/gate"], input=text, capture_output=True).stdout.decode()
+    """What the program prints for an input that it reads to its end."""
+    ran = subprocess.run([GATE], input=text, capture_output=True)
+    if ran.returncode != 0:
+        sys.exit(f"gate ended with {ran.returncode}: {ran.stderr.decode()}")
+    return ran.stdout.decode()
 
 
 def hand_over(rules, state, steps, spaces):

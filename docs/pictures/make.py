@@ -4,8 +4,8 @@
     docs/pictures/make.py            writes them
     docs/pictures/make.py --check    writes nothing; fails where a stored picture is not what the script draws
 
-Whatever a picture shows of the gate's answers is asked of target/bin/gate: which positions are inside, when a term holds, which roles
-are active after each step of library/examples/day.in. `rt check gate` builds that program.
+Whatever a picture shows of the gate's answers is asked of crates/gate/out/gate: which positions are inside, when a term holds, which
+roles are active after each step of library/examples/day.in. `rt run < /dev/null` in crates/gate builds that program.
 """
 
 import sys
@@ -56,7 +56,7 @@ def stored(name):
 def answers(rules, steps):
     """The program's answers, one for each step, each as its words."""
     text = "\n".join([*rules, "(steps)", *steps, ""])
-    ran = subprocess.run([ROOT / "target/bin/gate"], input=text.encode(), capture_output=True, check=True)
+    ran = subprocess.run([ROOT / "crates/gate/out/gate"], input=text.encode(), capture_output=True, check=True)
     lines = [line.strip("()").split() for line in ran.stdout.decode().splitlines()]
     if len(lines) != len(steps):
         sys.exit(f"{len(steps)} steps, {len(lines)} answers: {lines[:1]}")

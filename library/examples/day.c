@@ -1,7 +1,8 @@
 /* A day at the turbine through the library: the desk prepares it and saves its state, the hub cabinet goes on from the saved text.
  * library/examples/README.md says who is who and what each step means. From the repository's root:
  *
- *   cc -std=c11 -I library/include library/examples/day.c target/staticlib/libpitch_gate.a -o target/day &&
+ *   mkdir -p target
+ *   cc -std=c11 -I library/include library/examples/day.c crates/pitch_gate/out/libpitch_gate.a -o target/day &&
  *       target/day < library/examples/day.in
  */
 #include "pitch_gate.h"

@@ -57,11 +57,12 @@
  * Platform
  *   x86-64 Linux, the System V calling convention, 64-bit pointers; no instruction beyond the baseline of x86-64. Of its
  *   linker it needs memcpy and memset (a later build may need memmove and memcmp), and no other symbol. Less than 128 KiB of
- *   code and tables, no data that is written. Stack: PITCH_GATE_STACK_MOST. The archive is target/staticlib/libpitch_gate.a,
- *   which `rt staticlib pitch_gate` proves and writes.
- *   Cost of a call, as measured on one core of a server (docs/SPEED.md says how): one step takes about 10 microseconds with
- *   7 rules and a saved state of 15 lines, 30 with 128 rules, and 6 milliseconds with 128 rules and a full saved state. Nearly
- *   all of it is reading and writing the texts; a further step in the same call takes less than a microsecond.
+ *   code and tables, no data that is written. Stack: PITCH_GATE_STACK_MOST. The archive is
+ *   crates/pitch_gate/out/libpitch_gate.a, which `rt lib --cpu=x86-64`, run in crates/pitch_gate, proves and writes.
+ *   Cost of a call, as measured with an older compiler on one core of a server (docs/SPEED.md says how): one step takes about
+ *   10 microseconds with 7 rules and a saved state of 15 lines, 30 with 128 rules, and 6 milliseconds with 128 rules and a
+ *   full saved state. Nearly all of it is reading and writing the texts; a further step in the same call takes less than a
+ *   microsecond.
  *
  * Version
  *   PITCH_GATE_VERSION is 10,000 times the major version, 100 times the minor one, and the third number. With the same major

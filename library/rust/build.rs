@@ -1,4 +1,4 @@
-//! Links libpitch_gate.a: from the folder in PITCH_GATE_LIBRARY, else from target/staticlib of the repository. The archive has machine
+//! Links libpitch_gate.a: from the folder in PITCH_GATE_LIBRARY, else from crates/pitch_gate/out of the repository. The archive has machine
 //! code for x86-64 Linux, so that no other target can be built.
 
 use std::env;
@@ -20,7 +20,7 @@ fn main() {
         println!("cargo::rustc-link-lib=static=pitch_gate");
     } else {
         println!(
-            "cargo::error={} is not there: run `rt staticlib pitch_gate` at the repository's root, \
+            "cargo::error={} is not there: run `rt lib --cpu=x86-64` in crates/pitch_gate, \
              or name the archive's folder in PITCH_GATE_LIBRARY",
             archive.display()
         );
@@ -30,6 +30,6 @@ fn main() {
 fn library_folder() -> PathBuf {
     match env::var_os("PITCH_GATE_LIBRARY") {
         Some(folder) => PathBuf::from(folder),
-        None => Path::new(env!("CARGO_MANIFEST_DIR")).join("../../target/staticlib"),
+        None => Path::new(env!("CARGO_MANIFEST_DIR")).join("../../crates/pitch_gate/out"),
     }
 }
