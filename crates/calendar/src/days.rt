@@ -163,6 +163,7 @@ fn common_start(month: u64) -> u64
 }
 
 // The days of a year before a month.
+#[tactic(auto, unfolding(crate::specs::Days::month_start))]
 fn month_start(leap: bool, month: u64) -> u64
     requires { (1 ≤ month) × (month ≤ 12) }
     ensures { result ≡ month_start leap month }
