@@ -63,6 +63,9 @@ unfolding read_number
 first-digit [] h n e = absurd (omega arith)
 first-digit (c ∷ s) h n e = rw (ne_eqb c 48 n, e)
 
+-- for the check itself, which then needs no name of a step with the digit in it
+pub ruleset zeros = (first-zero)
+
 -- ---- a number other than 0
 
 pub positive-some : {r : Number} (s : List ℕ) → r ≡ read_number s → 0 < r.value → r ≡ read_positive s

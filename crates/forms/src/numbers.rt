@@ -15,6 +15,7 @@ impl Number {
 }
 
 // No leading zeros, at most ten digits.
+#[tactic(auto, using(crate::proofs::Turns::zeros))]
 pub(crate) fn read_number(text: &[u8]) -> Number
     ensures { result ≡ read_number text.now }
 {

@@ -2,24 +2,21 @@ use mathlib.Core.Path.{sym, ◌∙◌}
 use native.Mathlib.Omega.{arith}
 use borrow.Author.Tests.{not-true, not-false}
 use Rattle.forms.proofs.Digits.{digit-below, goes_on}
-use Rattle.forms.proofs.Turns.{ended, turned, stopped, first-none, first-zero, first-other, first-digit}
+use Rattle.forms.proofs.Turns.{ended, turned, stopped, first-none, first-other, first-digit}
 use Rattle.forms.proofs.numbers.read_number.Goals as goal
 
 pub returns-then-text-eq0 : goal.returns-then-text-eq0
 returns-then-text-eq0 c = c.nothing.ensures ∙ sym (first-none _ c.if-text-eq0.true)
 
-pub returns-then-first-eq48 : goal.returns-then-first-eq48
-returns-then-first-eq48 c = sym (first-zero _ (omega arith) c.if-first-eq48.true)
-
 pub returns-then-not-is_digit : goal.returns-then-not-is_digit
-returns-then-not-is_digit c = c.nothing-then-not-is_digit.ensures ∙ sym (first-other _ (omega arith) c.if-first-eq48.false (not-true _ (rw c.is_digit.ensures at c.if-not-is_digit.true-raw)))
+returns-then-not-is_digit c = c.nothing-then-not-is_digit.ensures ∙ sym (first-other _ (omega arith) (λ e. omega arith) (not-true _ (rw c.is_digit.ensures at c.if-not-is_digit.true-raw)))
 
 pub loop-i-init : goal.loop-i-init
 loop-i-init c =
     let digit = not-false _ (rw c.is_digit.ensures at c.if-not-is_digit.false-raw) in (
       omega arith,
       omega (arith, digit-below _ _ digit c.digit_value-value.ensures),
-      rw c.digit_value-value.ensures (first-digit _ (omega arith) c.if-first-eq48.false digit),
+      rw c.digit_value-value.ensures (first-digit _ (omega arith) (λ e. omega arith) digit),
     )
 
 pub returns-then-not-value-is_digit : goal.returns-then-not-value-is_digit
