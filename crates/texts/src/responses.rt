@@ -48,6 +48,7 @@ pub fn response_length(input: &[u8]) -> usize
 }
 
 // The response from place `at` on; where it ends. Bytes past the list's end are left out.
+#[tactic(auto, using(crate::proofs::Responding::too_long))]
 fn put_response(input: &[u8], out: &mut [u8], at: usize) -> usize
     ensures { Wrote out.old at (response_of input.now) result out.new }
 {

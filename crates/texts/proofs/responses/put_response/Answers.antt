@@ -16,9 +16,6 @@ short input n h =
     rw (rest (take (length input - n) (drop n input)) 8, rest input n)
     (omega (arith, length-drop 8 (drop n input), length-drop n input))
 
-pub returns-then-input-gt-MOST_BYTES : goal.returns-then-input-gt-MOST_BYTES
-returns-then-input-gt-MOST_BYTES c = like (too_long _ c.if-input-gt-MOST_BYTES.true) c.put_bad.ensures
-
 pub slice_bounds-rest-count : goal.slice_bounds-rest-count
 slice_bounds-rest-count c = omega (arith, prefix-within c.args.input.now c.read_prefix-prefix.result c.read_prefix-prefix.ensures)
 
@@ -30,7 +27,7 @@ returns-then-not-starts_steps c =
     let input = c.args.input.now in
     let prefix = c.read_prefix-prefix in
     like
-    (response-without input c.if-input-gt-MOST_BYTES.false prefix.result prefix.ensures _ refl _ c.number_without_steps.ensures
+    (response-without input (omega arith) prefix.result prefix.ensures _ refl _ c.number_without_steps.ensures
     (sym c.starts_steps.ensures ∙ not-true _ c.if-not-starts_steps.true-raw))
     c.put_bad-then-not-starts_steps.ensures
 
@@ -49,7 +46,7 @@ put_steps-requires c =
     let input = c.args.input.now in
     let prefix = c.read_prefix-prefix in (
       omega (arith, prefix-line input prefix.result prefix.ensures, line-most input),
-      short input prefix.result.length c.if-input-gt-MOST_BYTES.false,
+      short input prefix.result.length (omega arith),
     )
 
 pub returns : goal.returns
@@ -57,5 +54,5 @@ returns c =
     let input = c.args.input.now in
     let prefix = c.read_prefix-prefix in
     like
-    (response-with input c.if-input-gt-MOST_BYTES.false prefix.result prefix.ensures _ refl _ refl (sym c.starts_steps.ensures ∙ not-false _ c.if-not-starts_steps.false-raw))
+    (response-with input (omega arith) prefix.result prefix.ensures _ refl _ refl (sym c.starts_steps.ensures ∙ not-false _ c.if-not-starts_steps.false-raw))
     c.put_steps.ensures
