@@ -6,7 +6,7 @@ use lib.ListN.{length, take, drop, length-drop}
 use borrow.Author.Tests.{not-true, not-false}
 use Rattle.forms.proofs.Puts.{like}
 use Rattle.forms.proofs.Turns.{rest}
-use Rattle.texts.proofs.Responding.{starts-room, line-most, prefix-line, prefix-within, too_long, response-without, response-with}
+use Rattle.texts.proofs.Responding.{starts-room, line-most, prefix-line, prefix-within, response-without, response-with}
 use Rattle.texts.proofs.responses.put_response.Goals as goal
 
 -- what is left of a short input is short
