@@ -12,7 +12,7 @@ use enforcement::{Ran, Session, State};
 use loans::Loan;
 use places::{Shape, Side};
 use rules::{Right, RightSlot, Rule, RuleList, Slot};
-use std::io::{self, Read};
+use std::io::{self, Cursor, Read};
 use steps::{Acting, Step};
 
 // The state, the generator's seed and the checksum after some batches.
@@ -36,10 +36,8 @@ struct Drawn {
 }
 
 fn main(rt: HostRuntime) -> io::Result<()> {
-    let mut input = Vec::new(rt.alloc());
-    rt.reader().take(3).read_to_end(&mut input)?;
-    // What is missing counts as 0.
-    input.resize(3, 0)?;
+    let mut input = [0u8; 3];
+    io::copy(&mut rt.reader().take(3), &mut Cursor::new(&mut input[..]))?;
     if input[0] < b'0' {
         line(&rt, sum_of(0, 16, true))?;
         line(&rt, sum_of(1, 16, true))?;

@@ -9,7 +9,7 @@ mod slots;
 
 use enforcement::State;
 use rules::RuleList;
-use std::io::{self, Read};
+use std::io::{self, Cursor, Read};
 use step_text::StepRead;
 use steps::{Answer, Step};
 
@@ -47,9 +47,12 @@ right ? ?\n";
 const LINE_COUNT: usize = 21;
 
 fn main(rt: HostRuntime) -> io::Result<()> {
-    let mut input = Vec::new(rt.alloc());
-    rt.reader().take(65_536).read_to_end(&mut input)?;
-    each(&rt, &input)
+    let mut input = [0u8; 65_536];
+    let length = io::copy(
+        &mut rt.reader().take(65_536),
+        &mut Cursor::new(&mut input[..]),
+    )?;
+    each(&rt, &input[..(length as usize).min(65_536)])
 }
 
 // Each line as it stands, with what came of it.

@@ -9,7 +9,7 @@ mod writing;
 ghost use Rattle.std.specs.Prelude.{◌<◌, ◌≤◌, length};
 
 use reading::Loaded;
-use std::io::{self, Read};
+use std::io::{self, Cursor, Read};
 
 // The kinds of cases, numbered from 0: 0 to 5 load something, 6 to 11 write.
 const KINDS: [&str; 12] = [
@@ -28,9 +28,12 @@ const KINDS: [&str; 12] = [
 ];
 
 fn main(rt: HostRuntime) -> io::Result<()> {
-    let mut input = Vec::new(rt.alloc());
-    rt.reader().take(131_072).read_to_end(&mut input)?;
-    each(&rt, &input)
+    let mut input = writing::space();
+    let length = io::copy(
+        &mut rt.reader().take(131_072),
+        &mut Cursor::new(&mut input[..]),
+    )?;
+    each(&rt, quoting::front(&input, length as usize))
 }
 
 // Each case is given what those before it loaded.

@@ -3,11 +3,11 @@
 // a checksum of what was written and its length. With no input it does both on a short text of each kind.
 #![tactic(auto)]
 
-ghost use Rattle.std.specs.Prelude.{◌≡◌, length};
+ghost use Rattle.std.specs.Prelude.{◌≡◌, ◌≤◌, IfOk, length};
 
 use forms::Written;
 use rules::{Right, RightSlot, Rule, RuleList, Slot};
-use std::io::{self, Read};
+use std::io::{self, Cursor, Read};
 
 // Document 01's listing.
 const STEPS: [u8; 193] = *b"\
@@ -36,23 +36,26 @@ const SAVED: [u8; 88] = *b"\
 (did 2 7 5)\n";
 
 fn main(rt: HostRuntime) -> io::Result<()> {
-    let head = input(&rt, 2)?;
-    let [kind, count] = *head.as_slice() else {
+    let mut head = [0u8; 2];
+    let got = fill(&rt, &mut head)?;
+    if got < 2 {
         answer_sample(&rt)?;
         return save_sample(&rt);
-    };
-    let times = wide(count) % 64;
-    if kind == b's' {
+    }
+    let times = wide(head[1]) % 64;
+    if head[0] == b's' {
         return save_input(&rt, times);
     }
     answer_input(&rt, times)
 }
 
-// What the input has next, and no more than so many bytes.
-fn input(rt: &(impl Input + AllocGlobal), most: u64) -> io::Result<Vec<u8>> {
-    let mut input = Vec::new(rt.alloc());
-    rt.reader().take(most).read_to_end(&mut input)?;
-    Ok(input)
+// Reads until the input has ended or the room is full; how much was read.
+fn fill(rt: &impl Input, room: &mut [u8]) -> io::Result<usize>
+    ensures { IfOk result (λ count. count ≤ length room.new) }
+{
+    let most = room.len();
+    let read = io::copy(&mut rt.reader().take(most as u64), &mut Cursor::new(room))?;
+    Ok((read as usize).min(most))
 }
 
 fn answer_sample(rt: &impl Print) -> io::Result<()> {
@@ -68,10 +71,11 @@ fn save_sample(rt: &impl Print) -> io::Result<()> {
 }
 
 // One byte more than the program takes, so that a longer input is seen. No line is shorter than three fifths of its answer's.
-fn answer_input(rt: &(impl Input + Print + AllocGlobal), times: u64) -> io::Result<()> {
-    let input = input(rt, 65_537)?;
+fn answer_input(rt: &(impl Input + Print), times: u64) -> io::Result<()> {
+    let mut input = [0u8; 65_537];
     let mut output = [0u8; 131_072];
-    let length = answer_often(&input, &mut output, times);
+    let got = fill(rt, &mut input)?;
+    let length = answer_often(&input[..got], &mut output, times);
     show(rt, &output, length)
 }
 
@@ -82,10 +86,11 @@ fn room() -> [u8; 1_048_576]
     [0; 1_048_576]
 }
 
-fn save_input(rt: &(impl Input + Print + AllocGlobal), times: u64) -> io::Result<()> {
-    let input = input(rt, 1_048_576)?;
+fn save_input(rt: &(impl Input + Print), times: u64) -> io::Result<()> {
+    let mut input = room();
     let mut output = room();
-    let length = save_often(&input, &mut output, times);
+    let got = fill(rt, &mut input)?;
+    let length = save_often(&input[..got], &mut output, times);
     show(rt, &output, length)
 }
 
