@@ -7,6 +7,8 @@ use borrow.Author.Tests.{leb-true, le-leb}
 use lib.Dec.{leb}
 use Rattle.calendar.specs.Days.{leap_year, month_start, month_end, is_day_of_month, is_date}
 use Rattle.sets.proofs.Booleans.{both}
+use Rattle.calendar.proofs.Years.{year-start, year-of, year-rest}
+use Rattle.calendar.proofs.Months.{start_small, month-of}
 
 -- There is such a month, and it has such a day.
 pub record DayOfMonth (leap : Bool) (month day : ℕ) : Type 0 where
@@ -48,3 +50,7 @@ valid-date yyyymmdd tested =
     let from-and = both (leb 2000 (yyyymmdd / 10000)) _ tested in
     let to-and = both (leb (yyyymmdd / 10000) 2099) _ from-and.1 in
     record { from = leb-true _ _ from-and.0; to = leb-true _ _ to-and.0; within = day-of-month _ _ _ to-and.1 }
+
+pub ruleset date_facts = (valid-date, year-start, start_small)
+
+pub ruleset day_facts = (year-of, year-rest, month-of)

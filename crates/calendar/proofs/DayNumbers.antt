@@ -13,7 +13,7 @@ use Rattle.sets.specs.Sets.{all}
 use Rattle.sets.proofs.Bounded.{of-all}
 use Rattle.calendar.specs.Days.{leap_year, year_start, common_start, month_start, day_number, day_of_date, date_of, date_number}
 use Rattle.calendar.specs.Statements.{SuchDate}
-use Rattle.calendar.specs.declared.days.DayFound.TheVariants.{Day}
+use Rattle.std.specs.Prelude.{Some}
 use Rattle.calendar.proofs.Inverse.{number-of-day, date-day-date}
 use Rattle.calendar.proofs.DateMeaning.{date-means}
 
@@ -46,18 +46,18 @@ unfolding day_number month_start
 number-stays yyyymmdd date = rw (start-stays (yyyymmdd / 100 % 100) date.low date.high) refl
 
 -- Every date has the day number it had, and no other number has one.
-pub day-number-stays : (yyyymmdd day : ℕ) → (day_of_date yyyymmdd ≡ Day day) ↔ (SuchDate yyyymmdd × (day ≡ listed_day_number yyyymmdd))
+pub day-number-stays : (yyyymmdd day : ℕ) → (day_of_date yyyymmdd ≡ Some day) ↔ (SuchDate yyyymmdd × (day ≡ listed_day_number yyyymmdd))
 unfolding day_of_date
 day-number-stays yyyymmdd day = (had, has)
   where
-    had : day_of_date yyyymmdd ≡ Day day → SuchDate yyyymmdd × (day ≡ listed_day_number yyyymmdd)
+    had : day_of_date yyyymmdd ≡ Some day → SuchDate yyyymmdd × (day ≡ listed_day_number yyyymmdd)
     had same =
         let back = date-day-date yyyymmdd day same in
         let known = rw back.1 at (number-of-day day back.0) in
         let date = (date-means yyyymmdd).0 known.0 in
         (date, sym known.1 ∙ number-stays yyyymmdd date)
 
-    has : SuchDate yyyymmdd × (day ≡ listed_day_number yyyymmdd) → day_of_date yyyymmdd ≡ Day day
+    has : SuchDate yyyymmdd × (day ≡ listed_day_number yyyymmdd) → day_of_date yyyymmdd ≡ Some day
     has of = simp ((date-means yyyymmdd).1 of.0, number-stays yyyymmdd of.0, of.1)
 
 -- So every day has the date it had.

@@ -9,7 +9,7 @@ use mathlib.Core.Logic.{◌↔◌}
 use borrow.Author.Tests.{le-leb, leb-true, leb-false}
 use lib.Dec.{leb}
 use Rattle.calendar.specs.Days.{leap_year, year_start, year_of, month_start, month_of, date_in, date_of, date_number, is_date, day_number, day_of_date}
-use Rattle.calendar.specs.declared.days.DayFound.TheVariants.{Day}
+use Rattle.std.specs.Prelude.{Some}
 use Rattle.calendar.proofs.Last.{later}
 use Rattle.calendar.proofs.Years.{YearOf, years, year-start, year-next, year-of, year-is, year-rest}
 use Rattle.calendar.proofs.Months.{MonthOf, month-later, month-span, month-of, month-is}
@@ -28,7 +28,7 @@ digits year month day month-short day-short =
     let hundreds : (year * 10000 + month * 100 + day) / 100 ≡ year * 100 + month = omega arith in
     record { year_digits = omega arith; month_digits = omega arith; day_digits = omega arith }
 
-day-of-parts : (since month day : ℕ) → since ≤ 99 → DayOfMonth (leap_year (2000 + since)) month day → day_of_date ((2000 + since) * 10000 + month * 100 + day) ≡ Day (year_start since + month_start (leap_year (2000 + since)) month + (day - 1))
+day-of-parts : (since month day : ℕ) → since ≤ 99 → DayOfMonth (leap_year (2000 + since)) month day → day_of_date ((2000 + since) * 10000 + month * 100 + day) ≡ Some (year_start since + month_start (leap_year (2000 + since)) month + (day - 1))
 unfolding day_of_date is_date day_number
 day-of-parts since month day high valid =
     let span = month-span (leap_year (2000 + since)) month valid.high in
@@ -45,7 +45,7 @@ day-of-parts since month day high valid =
     )
 
 -- The date of a day of the range is a date, and its day is that day.
-pub day-date-day : (day : ℕ) → day < 36525 → day_of_date (date_number (date_of day)) ≡ Day day
+pub day-date-day : (day : ℕ) → day < 36525 → day_of_date (date_number (date_of day)) ≡ Some day
 unfolding date_of date_in
 day-date-day day high =
     let since = year_of day in
@@ -57,7 +57,7 @@ day-date-day day high =
     let valid : DayOfMonth leap month (rest - month_start leap month + 1) =
     record { low = known.low; high = known.high; first = omega arith; last = omega arith } in
     let whole : year_start since + month_start leap month + (rest - month_start leap month + 1 - 1) ≡ day = omega arith in
-    day-of-parts since month (rest - month_start leap month + 1) year-known.high valid ∙ ap Day whole
+    day-of-parts since month (rest - month_start leap month + 1) year-known.high valid ∙ ap Some whole
 
 -- ---- from a date to its day and back
 
@@ -93,7 +93,7 @@ module _ (a : ℕ) (date : is_date a ≡ true) where
       let hundreds = hundreds-again a in
       simp (year, rest-of-number, whole, month) (omega arith)
 
-date-found : (a day : ℕ) (test : Bool) → is_date a ≡ test → day_of_date a ≡ Day day → (is_date a ≡ true) × (day_number a ≡ day)
+date-found : (a day : ℕ) (test : Bool) → is_date a ≡ test → day_of_date a ≡ Some day → (is_date a ≡ true) × (day_number a ≡ day)
 unfolding day_of_date
 date-found a day true tested same = (tested, cc)
 date-found a day false tested same = (cc, cc)
@@ -103,7 +103,7 @@ pub number-of-day : (day : ℕ) → day < 36525 → (is_date (date_number (date_
 number-of-day day high = date-found (date_number (date_of day)) day (is_date (date_number (date_of day))) refl (day-date-day day high)
 
 -- The day of a date is in the range, and its date is that date.
-pub date-day-date : (a day : ℕ) → day_of_date a ≡ Day day → (day < 36525) × (date_number (date_of day) ≡ a)
+pub date-day-date : (a day : ℕ) → day_of_date a ≡ Some day → (day < 36525) × (date_number (date_of day) ≡ a)
 date-day-date a day same =
     let found = date-found a day (is_date a) refl same in
     let year = year-of-number a found.0 in

@@ -42,6 +42,10 @@ pub start_small : (leap : Bool) (month : ℕ) → month ≤ 12 → month_start l
 start_small true month high = let span = month-span true month high in omega arith
 start_small false month high = let span = month-span false month high in omega arith
 
+pub common_small : (month : ℕ) → month ≤ 12 → common_start month ≤ 366
+unfolding month_start
+common_small month high = omega (arith, start_small false month high)
+
 -- No month of a year is before its January.
 pub january-first : (month : ℕ) → 1 ≤ month → from_march_before 1 ≤ from_march_before month
 january-first month low = by-year (ltb month 3) refl
@@ -132,3 +136,5 @@ pub month-stop : (leap : Bool) (rest month : ℕ) → 1 ≤ month → month_star
 month-stop leap rest month low started =
     let same = from_one month low in
     rw (last-stop (starts_from_zero leap) rest (month - 1) (rw same started)) same
+
+pub ruleset month_turns = (month-stop)

@@ -64,6 +64,8 @@ year-formula day high =
       ended = omega (arith, year-start (suc since) (omega arith));
     })
 
+pub ruleset year_formulas = (year-start, year-formula)
+
 -- A year has 365 days, or 366 where it is a leap year.
 pub year-next : (since : ℕ) → year_start (suc since) ≡ year_start since + year_length (leap_year (2000 + since))
 unfolding year_start

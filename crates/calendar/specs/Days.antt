@@ -2,12 +2,8 @@
 -- proofs/Inverse.antt, that each next day has the next date in proofs/DateMeaning.antt, and that every date has the day number it had before
 -- the request in proofs/DayNumbers.antt.
 -- Assumes nothing.
-use Rattle.std.specs.Prelude.{ℕ, zero, suc, ◌+◌, ◌-◌, ◌*◌, ◌/◌, ◌%◌, Bool, cond, not, ◌&&◌, ◌||◌, leb, ltb, eqb}
+use Rattle.std.specs.Prelude.{ℕ, zero, suc, ◌+◌, ◌-◌, ◌*◌, ◌/◌, ◌%◌, Bool, cond, not, ◌&&◌, ◌||◌, leb, ltb, eqb, Option, Some, None}
 use Rattle.calendar.specs.declared.days.Date.{Date}
-use Rattle.calendar.specs.declared.days.DayFound.{DayFound}
-use Rattle.calendar.specs.declared.days.DayFound.TheVariants.{Day, NoDate}
-use Rattle.calendar.specs.declared.days.DateFound.{DateFound}
-use Rattle.calendar.specs.declared.days.DateFound.TheVariants.{On, NoDay}
 
 -- "day = t / 86,400 rounded down"
 abbrev pub day_of : ℕ → ℕ
@@ -72,8 +68,8 @@ is_date yyyymmdd =
 unfoldable pub day_number : ℕ → ℕ
 day_number yyyymmdd = year_start (yyyymmdd / 10000 - 2000) + month_start (leap_year (yyyymmdd / 10000)) (yyyymmdd / 100 % 100) + (yyyymmdd % 100 - 1)
 
-unfoldable pub day_of_date : ℕ → DayFound
-day_of_date yyyymmdd = cond (is_date yyyymmdd) (Day (day_number yyyymmdd)) NoDate
+unfoldable pub day_of_date : ℕ → Option ℕ
+day_of_date yyyymmdd = cond (is_date yyyymmdd) (Some (day_number yyyymmdd)) None
 
 -- the last number from 0 to k that starts on or before the day
 unfoldable pub last_started : (ℕ → ℕ) → ℕ → ℕ → ℕ
@@ -101,8 +97,8 @@ date_in since rest =
 unfoldable pub date_of : ℕ → Date
 date_of day = date_in (year_of day) (day - year_start (year_of day))
 
-unfoldable pub date_found : ℕ → DateFound
-date_found day = cond (ltb day 36525) (On (date_of day)) NoDay
+unfoldable pub date_found : ℕ → Option Date
+date_found day = cond (ltb day 36525) (Some (date_of day)) None
 
 -- a date as yyyymmdd
 abbrev pub date_number : Date → ℕ

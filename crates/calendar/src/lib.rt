@@ -4,5 +4,5 @@
 pub mod days;
 pub mod terms;
 
-pub use days::{Date, DateFound, DayFound};
+pub use days::Date;
 pub use terms::Term;

@@ -11,9 +11,8 @@ use Rattle.rules.specs.Acceptance.{every, rules_of, list_accepted}
 use Rattle.rules.proofs.Every.{every-both, every-all}
 use Rattle.rules.specs.declared.families.Rule.{Rule}
 use Rattle.rules.specs.declared.lists.RuleList.{RuleList}
-use Rattle.steps.specs.declared.lowest.Lowest.{Lowest}
-use Rattle.steps.specs.declared.lowest.Lowest.TheVariants.{Unbroken, BrokenAt}
-use Rattle.steps.specs.Lowest.{lowest}
+use Rattle.std.specs.Prelude.{Option, Some, None}
+use Rattle.rules.specs.Lowest.{lowest}
 use Rattle.steps.specs.Pairs.{ended_pairs, Part}
 use Rattle.selection.specs.Selection.{selects, selected_number}
 use Rattle.steps.specs.declared.actions.Action.{Action}
@@ -46,14 +45,14 @@ unfolding every lowest
 lowest-same given p q f n [] e = refl
 lowest-same given p q f n (rule ∷ rules) e =
     let x = both (given rule) (every given rules) e in
-    ap₂ (λ (b : Bool) (rest : Lowest). cond b rest (BrokenAt n)) (f rule x.0) (lowest-same given p q f (suc n) rules x.1)
+    ap₂ (λ (b : Bool) (rest : Option ℕ). cond b rest (Some n)) (f rule x.0) (lowest-same given p q f (suc n) rules x.1)
 
-pub lowest-none : (test : Rule → Bool) (n : ℕ) (rules : List Rule) → lowest test n rules ≡ Unbroken → every test rules ≡ true
+pub lowest-none : (test : Rule → Bool) (n : ℕ) (rules : List Rule) → lowest test n rules ≡ None → every test rules ≡ true
 unfolding every lowest
 lowest-none test n [] e = refl
 lowest-none test n (rule ∷ rules) e = go (test rule) e (lowest-none test (suc n) rules)
   where
-    go : (b : Bool) → cond b (lowest test (suc n) rules) (BrokenAt n) ≡ Unbroken → (lowest test (suc n) rules ≡ Unbroken → every test rules ≡ true) → (b && every test rules) ≡ true
+    go : (b : Bool) → cond b (lowest test (suc n) rules) (Some n) ≡ None → (lowest test (suc n) rules ≡ None → every test rules ≡ true) → (b && every test rules) ≡ true
     go true h f = f h
     go false h f = cc
 
@@ -110,10 +109,10 @@ module _ (rules : List Rule) (s : State) (accepted : Accepted s) (obeyed : obeys
         }
 
 module _ (list : RuleList) (s : State) (accepted : Accepted s) (obeyed : obeys (rules_of list) s ≡ true) (step : Step) where
-  by-lowest : check_step list s step ≡ passes → is_event (action_of step) ≡ false → (low : Lowest) → lowest_broken (rules_of list) (target s (action_of step)) ≡ low → (n : ℕ) → Plain list s step (compared s (request_next n s (target s (action_of step)) low))
+  by-lowest : check_step list s step ≡ passes → is_event (action_of step) ≡ false → (low : Option ℕ) → lowest_broken (rules_of list) (target s (action_of step)) ≡ low → (n : ℕ) → Plain list s step (compared s (request_next n s (target s (action_of step)) low))
   unfolding request_next
-  by-lowest pass event Unbroken e n = taking pass event e
-  by-lowest pass event (BrokenAt rule) e n = subst (Plain list s step) (refusal-verdict s 30 rule) (breaking rule pass event e)
+  by-lowest pass event None e n = taking pass event e
+  by-lowest pass event (Some rule) e n = subst (Plain list s step) (refusal-verdict s 30 rule) (breaking rule pass event e)
 
   by-event : check_step list s step ≡ passes → (event : Bool) → is_event (action_of step) ≡ event → Plain list s step (compared s (passed_next event (rules_of list) s (action_of step)))
   unfolding passed_next
@@ -266,10 +265,10 @@ module _ (list : RuleList) (s : State) (accepted : Accepted s) (step : Step) whe
   remaining-selected : check_step list s step ≡ passes → is_event action ≡ true → Largest (narrow.obeys_selected rules action) (target s action) (remaining (selects action) rules (target s action))
   remaining-selected pass event = remaining-largest action event rules (target s action) (target-accepted list s step accepted pass).typed
 
-  narrow-by-lowest : check_step list s step ≡ passes → is_event action ≡ false → (low : Lowest) → narrow.lowest_selected rules action (target s action) ≡ low → narrow.Narrow list s step (request_next (selected_number (selects action) rules) s (target s action) low)
+  narrow-by-lowest : check_step list s step ≡ passes → is_event action ≡ false → (low : Option ℕ) → narrow.lowest_selected rules action (target s action) ≡ low → narrow.Narrow list s step (request_next (selected_number (selects action) rules) s (target s action) low)
   unfolding request_next
-  narrow-by-lowest pass event Unbroken e = narrow.taking pass event e
-  narrow-by-lowest pass event (BrokenAt rule) e = narrow.breaking rule pass event e
+  narrow-by-lowest pass event None e = narrow.taking pass event e
+  narrow-by-lowest pass event (Some rule) e = narrow.breaking rule pass event e
 
   narrow-by-event : check_step list s step ≡ passes → (event : Bool) → is_event action ≡ event → narrow.Narrow list s step (passed_next event rules s action)
   unfolding passed_next

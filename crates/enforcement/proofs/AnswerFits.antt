@@ -15,9 +15,8 @@ use Rattle.rules.specs.Families.{is_active_for}
 use Rattle.rules.specs.declared.families.Rule.{Rule}
 use Rattle.rules.specs.declared.lists.RuleList.{RuleList}
 use Rattle.rules.specs.declared.lists.Slot.{Slot}
-use Rattle.steps.specs.declared.lowest.Lowest.{Lowest}
-use Rattle.steps.specs.declared.lowest.Lowest.TheVariants.{Unbroken, BrokenAt}
-use Rattle.steps.specs.Lowest.{lowest}
+use Rattle.std.specs.Prelude.{Option, Some, None}
+use Rattle.rules.specs.Lowest.{lowest}
 use Rattle.steps.specs.Pairs.{ended_pairs, pair_count}
 use Rattle.selection.specs.Selection.{selects, selected_number}
 use Rattle.steps.specs.declared.actions.Action.{Action}
@@ -90,16 +89,16 @@ number_small selected (rule ∷ rules) = one_more (selected rule) (number_small 
     one_more false l = omega arith
 
 -- the rule that a search finds is one of the list
-abbrev Below : ℕ → Lowest → Type 0
-Below n Unbroken = Unit {0}
-Below n (BrokenAt rule) = rule < n
+abbrev Below : ℕ → Option ℕ → Type 0
+Below n None = Unit {0}
+Below n (Some rule) = rule < n
 
 lowest-small : (test : Rule → Bool) (n k : ℕ) (rules : List Rule) → n + length rules ≤ k → Below k (lowest test n rules)
 unfolding lowest
 lowest-small test n k [] l = tt
 lowest-small test n k (rule ∷ rules) l = here (test rule) (lowest-small test (suc n) k rules (omega arith))
   where
-    here : (b : Bool) → Below k (lowest test (suc n) rules) → Below k (cond b (lowest test (suc n) rules) (BrokenAt n))
+    here : (b : Bool) → Below k (lowest test (suc n) rules) → Below k (cond b (lowest test (suc n) rules) (Some n))
     here true later = later
     here false later = omega arith
 
@@ -127,10 +126,10 @@ module _ (rules : List Rule) (s : State) (few : length rules ≤ 128) (sessions 
   granted-fits : (selected : Rule → Bool) (after : List ℕ) → (selected_number selected rules < 256) × (pair_count (ended_pairs s.active after) < 4096)
   granted-fits selected after = let number = number_small selected rules in let ended = ended-small s.active after in (omega arith, omega arith)
 
-  request-fits : (selected : Rule → Bool) (after : State) (found : Lowest) → Below 256 found → Fits (request_next (selected_number selected rules) s after found).answer
+  request-fits : (selected : Rule → Bool) (after : State) (found : Option ℕ) → Below 256 found → Fits (request_next (selected_number selected rules) s after found).answer
   unfolding request_next
-  request-fits selected after Unbroken small = granted-fits selected after.active
-  request-fits selected after (BrokenAt rule) small = let number = number_small selected rules in (small, omega arith)
+  request-fits selected after None small = granted-fits selected after.active
+  request-fits selected after (Some rule) small = let number = number_small selected rules in (small, omega arith)
 
   passed-fits : (action : Action) (event : Bool) → Fits (passed_next event rules s action).answer
   unfolding passed_next

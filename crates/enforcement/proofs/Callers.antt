@@ -27,7 +27,7 @@ use Rattle.rules.specs.declared.lists.RuleList.{RuleList}
 use Rattle.steps.specs.Steps.{action_of, is_event}
 use Rattle.steps.specs.declared.actions.Action.{Action}
 use Rattle.steps.specs.declared.actions.Action.TheVariants.{Close, Move, Lost}
-use Rattle.steps.specs.declared.lowest.Lowest.TheVariants.{BrokenAt}
+use Rattle.std.specs.Prelude.{Some}
 use Rattle.steps.specs.declared.steps.Step.{Step}
 use Rattle.enforcement.specs.States.{fresh, holds_role, is_open, position_of, active_role, did, rule_holds}
 use Rattle.enforcement.specs.Steps.{passes, check_step, target}
@@ -94,7 +94,7 @@ module _ (list : RuleList) (listed : list_accepted list ≡ true) where
       true≢false (sym (rw there at holds) ∙ off))
 
   -- the lowest broken rule, in plain words
-  lowest-is : (s : State) (n : ℕ) → (lowest_broken (rules_of list) s ≡ BrokenAt (suc n)) ↔ LowestIs (rules_of list) s n
+  lowest-is : (s : State) (n : ℕ) → (lowest_broken (rules_of list) s ≡ Some (suc n)) ↔ LowestIs (rules_of list) s n
   lowest-is s n = (
     λ h filler.
         let t = (lowest-means (λ rule. rule_holds rule s) (rules_of list) filler n).0 h in
@@ -112,11 +112,11 @@ module _ (list : RuleList) (listed : list_accepted list ≡ true) where
   plain-named s step v (refusing number e) d = absurd ((check-other list s step number e).0 (same-refusal number 30 d))
   plain-named s step v (breaking rule e request low) d =
       let t = lowest-number (λ k. rule_holds k (target s (action_of step))) (rules_of list) rule low in
-      (t.0, t.1, (lowest-is (target s (action_of step)) t.0).0 (low ∙ ap BrokenAt t.1))
+      (t.0, t.1, (lowest-is (target s (action_of step)) t.0).0 (low ∙ ap Some t.1))
   plain-named s step v (taking e request low) d = absurd (not-granted 30 d)
   plain-named s step v (ending l e event kept) d = absurd (not-granted 30 d)
 
-  plain-refusing : (s : State) (step : Step) (v : Verdict) → Plain list s step v → check_step list s step ≡ passes → is_event (action_of step) ≡ false → (n : ℕ) → lowest_broken (rules_of list) (target s (action_of step)) ≡ BrokenAt (suc n) → (v.decision ≡ refused 30) × (v.rule ≡ suc n)
+  plain-refusing : (s : State) (step : Step) (v : Verdict) → Plain list s step v → check_step list s step ≡ passes → is_event (action_of step) ≡ false → (n : ℕ) → lowest_broken (rules_of list) (target s (action_of step)) ≡ Some (suc n) → (v.decision ≡ refused 30) × (v.rule ≡ suc n)
   plain-refusing s step v (refusing number e) pass request n h = absurd (let distinct : ◌≡◌ {A = ℕ} 0 1 = cc in omega arith)
   plain-refusing s step v (breaking rule e request low) pass other n h = (refl, cc)
   plain-refusing s step v (taking e request low) pass other n h = absurd (let distinct : ◌≡◌ {A = ℕ} 0 1 = cc in omega arith)

@@ -8,8 +8,7 @@ use Rattle.rules.specs.Acceptance.{rules_of}
 use Rattle.rules.specs.declared.lists.RuleList.{RuleList}
 use Rattle.steps.specs.Steps.{action_of, is_event}
 use Rattle.steps.specs.declared.steps.Step.{Step}
-use Rattle.steps.specs.declared.lowest.Lowest.{Lowest}
-use Rattle.steps.specs.declared.lowest.Lowest.TheVariants.{Unbroken, BrokenAt}
+use Rattle.std.specs.Prelude.{Option, Some, None}
 use Rattle.enforcement.specs.Steps.{Checked, passes, refuses, check_step, target}
 use Rattle.enforcement.specs.Decisions.{Largest}
 use Rattle.enforcement.specs.Plain.{obeys, lowest_broken, largest_part, Plain, refusing, breaking, taking, ending, plain_request, plain_passed, plain_checked, plain_step}
@@ -24,10 +23,10 @@ module _
     (typed : check_step list s step ≡ passes → Typed (target s (action_of step)))
     (some : check_step list s step ≡ passes → is_event (action_of step) ≡ true → (l : List ℕ) × Largest (obeys (rules_of list)) (target s (action_of step)) l)
   where
-    by-lowest : check_step list s step ≡ passes → is_event (action_of step) ≡ false → (low : Lowest) → lowest_broken (rules_of list) (target s (action_of step)) ≡ low → Plain list s step (plain_request s (target s (action_of step)) low)
+    by-lowest : check_step list s step ≡ passes → is_event (action_of step) ≡ false → (low : Option ℕ) → lowest_broken (rules_of list) (target s (action_of step)) ≡ low → Plain list s step (plain_request s (target s (action_of step)) low)
     unfolding plain_request
-    by-lowest pass event Unbroken e = taking pass event e
-    by-lowest pass event (BrokenAt rule) e = breaking rule pass event e
+    by-lowest pass event None e = taking pass event e
+    by-lowest pass event (Some rule) e = breaking rule pass event e
 
     by-event : check_step list s step ≡ passes → (event : Bool) → is_event (action_of step) ≡ event → Plain list s step (plain_passed event (rules_of list) s (target s (action_of step)))
     unfolding plain_passed

@@ -10,7 +10,7 @@ use native.Mathlib.Nat.{add-zero}
 use native.Mathlib.Omega.{arith}
 use native.Mathlib.Numerals.{add-one}
 use lib.Dec.{eqb, ltb}
-use lib.ListN.{length, get_or, replicate, length-set, length-replicate, get_or-replicate}
+use lib.ListN.{length, get_or, length-set, length-replicate, get_or-replicate}
 use borrow.Author.Tests.{eq-eqb, ne_eqb, eqb-true, lt-ltb, le-ltb}
 use Rattle.sets.specs.Sets.{member, with, subset, any, union_of}
 use Rattle.sets.proofs.Booleans.{clash, both_true, left-true, right-true, left_or, right_or, of_or, not_so, same_test}
@@ -35,10 +35,10 @@ use Rattle.selection.specs.declared.selection.Choice.{Choice}
 use Rattle.selection.specs.Ending.{lets}
 use Rattle.enforcement.specs.States.{position_of, active_role}
 use Rattle.enforcement.specs.Steps.{put}
-use Rattle.enforcement.specs.Rounds.{keeps}
-use Rattle.enforcement.specs.Deciding.{Planned, Adds, RuledOut, counted_plan}
+use Rattle.enforcement.specs.Rounds.{keeps, stays}
+use Rattle.enforcement.specs.Deciding.{Planned, Adds, RuledOut, no_plan}
 use Rattle.enforcement.specs.declared.states.State.{State}
-use Rattle.enforcement.specs.declared.events.Plan.{Plan}
+use Rattle.enforcement.specs.declared.plans.Plan.{Plan}
 use Rattle.enforcement.proofs.Words.{set_at, has-put}
 use Rattle.selection.proofs.Judgement.{first_rules, number_more, number-le}
 
@@ -175,18 +175,8 @@ module _ (s : State) (l : List ℕ) (i r : ℕ) (low : i < 32) (active : active_
   keeps-idle (BindingOfDuty p q) none = refl
 
 module _ (s : State) (plan : Plan) (outs : length plan.out ≡ 32) (lacks : length plan.needs ≡ 32) where
-  -- a rule that is not selected
-  pub adds-unselected : (rule : Rule) → Adds false rule s plan plan
-  adds-unselected rule =
-      record {
-        outs = outs;
-        lacks = lacks;
-        means = λ l small i r low below active. sym (and-true (lets plan.dead plan.out plan.needs l i r));
-        number = sym (add-zero plan.selected);
-      }
-
   -- one that lets every role stay
-  pub adds-nothing : (rule : Rule) → Keeps rule s (λ r. true) → Adds true rule s plan (record { dead = plan.dead; out = plan.out; needs = plan.needs; selected = plan.selected + 1 })
+  pub adds-nothing : (rule : Rule) → Keeps rule s (λ r. true) → Adds rule s plan plan
   adds-nothing rule stay =
       record {
         outs = outs;
@@ -196,7 +186,7 @@ module _ (s : State) (plan : Plan) (outs : length plan.out ≡ 32) (lacks : leng
       }
 
   -- one on a role that is active nowhere
-  pub adds-idle : (rule : Rule) → member (union_of 32 (word_at s.active)) (first rule) ≡ false → Adds true rule s plan (counted_plan plan)
+  pub adds-idle : (rule : Rule) → member (union_of 32 (word_at s.active)) (first rule) ≡ false → Adds rule s plan plan
   adds-idle rule none =
       record {
         outs = outs;
@@ -206,7 +196,7 @@ module _ (s : State) (plan : Plan) (outs : length plan.out ≡ 32) (lacks : leng
       }
 
   -- one that ends a role everywhere
-  pub adds-dead : (a : ℕ) (rule : Rule) → Keeps rule s (λ r. not (eqb a r)) → Adds true rule s plan (record { dead = with 32 plan.dead a; out = plan.out; needs = plan.needs; selected = plan.selected + 1 })
+  pub adds-dead : (a : ℕ) (rule : Rule) → Keeps rule s (λ r. not (eqb a r)) → Adds rule s plan (record { dead = with 32 plan.dead a; out = plan.out; needs = plan.needs; selected = plan.selected })
   unfolding lets
   adds-dead a rule stay =
       record {
@@ -220,7 +210,7 @@ module _ (s : State) (plan : Plan) (outs : length plan.out ≡ 32) (lacks : leng
       }
 
   -- one by which a role needs another
-  pub adds-needs : (a q : ℕ) → a < 32 → q < 32 → Adds true (Dependency a q) s plan (record { dead = plan.dead; out = plan.out; needs = put 32 plan.needs a q; selected = plan.selected + 1 })
+  pub adds-needs : (a q : ℕ) → a < 32 → q < 32 → Adds (Dependency a q) s plan (record { dead = plan.dead; out = plan.out; needs = put 32 plan.needs a q; selected = plan.selected })
   unfolding lets keeps is_active
   adds-needs a q place low =
       record {
@@ -240,7 +230,7 @@ module _ (s : State) (plan : Plan) (outs : length plan.out ≡ 32) (lacks : leng
       go l i r false known = sym (and-true (not (has_role plan.out i r) && (not (member plan.dead r) && subset (word_at plan.needs r) (union_of 32 (word_at l)))))
 
   -- one that ends a role in sessions that are not positioned so
-  pub adds-out : (a : ℕ) (side : Side) (more : List ℕ) → RuledOut 32 plan.out s.sessions s.active a side more → Adds true (LocationContext a side) s plan (record { dead = plan.dead; out = more; needs = plan.needs; selected = plan.selected + 1 })
+  pub adds-out : (a : ℕ) (side : Side) (more : List ℕ) → RuledOut 32 plan.out s.sessions s.active a side more → Adds (LocationContext a side) s plan (record { dead = plan.dead; out = more; needs = plan.needs; selected = plan.selected })
   unfolding lets keeps
   adds-out a side more ruled =
       record {
@@ -277,6 +267,22 @@ module _ (s : State) (a : ℕ) where
   unfolding keeps
   keeps-past-term term holds l small i r below = rw (holds, or-false)
 
+-- any other family ends no role
+pub keeps-other : (s : State) (rule : Rule) → ((a q : ℕ) → rule ≡ Dependency a q → ⊥) → ((a : ℕ) (term : Term) → rule ≡ TimeContext a term → ⊥) → ((a : ℕ) (side : Side) → rule ≡ LocationContext a side → ⊥) → Keeps rule s (λ r. true)
+unfolding keeps
+keeps-other s (Prerequisite a q) needs time place l small i r below = refl
+keeps-other s (MaxUsers a n) needs time place l small i r below = refl
+keeps-other s (MaxRoles n) needs time place l small i r below = refl
+keeps-other s (MaxPermissions a n) needs time place l small i r below = refl
+keeps-other s (MaxActive n) needs time place l small i r below = refl
+keeps-other s (StaticSeparation a q) needs time place l small i r below = refl
+keeps-other s (DynamicSeparation a q) needs time place l small i r below = refl
+keeps-other s (Dependency a q) needs time place l small i r below = absurd (needs a q refl)
+keeps-other s (TimeContext a term) needs time place l small i r below = absurd (time a term refl)
+keeps-other s (LocationContext a side) needs time place l small i r below = absurd (place a side refl)
+keeps-other s (HistorySeparation p q) needs time place l small i r below = refl
+keeps-other s (BindingOfDuty p q) needs time place l small i r below = refl
+
 -- ---- all rules of a list
 
 module _ (test : Rule → Bool) where
@@ -292,7 +298,7 @@ module _ (test : Rule → Bool) where
       joined false y z = refl
 
 module _ (selected : Rule → Bool) (s : State) (slots : List Slot) where
-  pub planned-none : Planned selected (first_rules 0 slots) s (record { dead = 0; out = replicate 32 0; needs = replicate 32 0; selected = 0 })
+  pub planned-none : Planned selected (first_rules 0 slots) s no_plan
   unfolding lets every selected_number
   planned-none =
       record {
@@ -305,18 +311,31 @@ module _ (selected : Rule → Bool) (s : State) (slots : List Slot) where
       }
 
   -- one rule more
-  pub planned-more : (n : ℕ) (filler : Slot) (before after : Plan) → n < length slots →
-      Planned selected (first_rules n slots) s before → Adds (selected (rule_of (get_or slots n filler))) (rule_of (get_or slots n filler)) s before after → Planned selected (first_rules (n + 1) slots) s after
-  planned-more n filler before after within planned adds =
-      rw (add-one n)
-      (record {
-        outs = adds.outs;
-        lacks = adds.lacks;
-        means = λ l small i r low below active.
-            adds.means l small i r low below active
-            ∙ rw (planned.means l small i r low below active, every_more (λ rule. not (selected rule) || keeps rule s l i r) slots n filler within);
-        number = rw (adds.number, planned.number, number_more selected slots n filler within);
-      })
+  module _ (n : ℕ) (filler : Slot) (before : Plan) (within : n < length slots) (planned : Planned selected (first_rules n slots) s before) where
+    pub planned-unselected : selected (rule_of (get_or slots n filler)) ≡ false → Planned selected (first_rules (n + 1) slots) s before
+    planned-unselected none =
+        rw (add-one n)
+        (record {
+          outs = planned.outs;
+          lacks = planned.lacks;
+          means = λ l small i r low below active.
+              rw (planned.means l small i r low below active, every_more (λ rule. not (selected rule) || keeps rule s l i r) slots n filler within, none)
+              (sym (and-true (stays selected (first_rules n slots) s l i r)));
+          number = rw (planned.number, number_more selected slots n filler within, none) (sym (add-zero (selected_number selected (first_rules n slots))));
+        })
+
+    pub planned-selected : selected (rule_of (get_or slots n filler)) ≡ true → (after : Plan) →
+        Adds (rule_of (get_or slots n filler)) s (record { dead = before.dead; out = before.out; needs = before.needs; selected = before.selected + 1 }) after → Planned selected (first_rules (n + 1) slots) s after
+    planned-selected chosen after adds =
+        rw (add-one n)
+        (record {
+          outs = adds.outs;
+          lacks = adds.lacks;
+          means = λ l small i r low below active.
+              adds.means l small i r low below active
+              ∙ rw (planned.means l small i r low below active, every_more (λ rule. not (selected rule) || keeps rule s l i r) slots n filler within, chosen);
+          number = rw (adds.number, planned.number, number_more selected slots n filler within, chosen);
+        })
 
   pub planned-small : (n : ℕ) (plan : Plan) → n ≤ length slots → Planned selected (first_rules n slots) s plan → plan.selected ≤ n
   planned-small n plan within planned = rw planned.number (number-le selected slots n within)

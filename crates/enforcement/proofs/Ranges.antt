@@ -10,28 +10,9 @@ use Rattle.places.specs.Places.{on_grid, point_in_range}
 use Rattle.steps.specs.declared.acting.Acting.{Acting}
 use Rattle.steps.specs.declared.acting.Acting.TheVariants.{Nobody, InSession}
 use Rattle.steps.specs.declared.actions.Action.{Action}
-use Rattle.steps.specs.declared.actions.Action.TheVariants.{Malformed, Assign, Withdraw, Grant, Take, Open, Activate, Deactivate, Access, Finish, Close, Move, Lost, Clock, Lend, Recall}
 use Rattle.steps.specs.Steps.{is_time, ranged, of_kind, is_administrative, acted_by, action_of}
 use Rattle.steps.specs.declared.steps.Step.{Step}
-
--- each number is in the range that document 01 gives it
-abbrev pub Ranged : Action → Type 0
-Ranged Malformed = Unit {0}
-Ranged (Assign u r) = (u < 64) × (r < 32)
-Ranged (Withdraw u r) = (u < 64) × (r < 32)
-Ranged (Grant r p) = (r < 32) × (p < 32)
-Ranged (Take r p) = (r < 32) × (p < 32)
-Ranged (Open i u) = (i < 32) × (u < 64)
-Ranged (Activate i r) = (i < 32) × (r < 32)
-Ranged (Deactivate i r) = (i < 32) × (r < 32)
-Ranged (Access i p o) = (i < 32) × (p < 32) × (o < 32)
-Ranged (Finish o) = o < 32
-Ranged (Close i) = i < 32
-Ranged (Move i point) = (i < 32) × (point_in_range point ≡ true)
-Ranged (Lost i) = i < 32
-Ranged (Clock t) = t ≤ 3155759999
-Ranged (Lend u v r t) = (u < 64) × (v < 64) × (r < 32) × (t ≤ 3155759999)
-Ranged (Recall u v r) = (u < 64) × (v < 64) × (r < 32)
+pub use Rattle.enforcement.specs.Deciding.{Ranged}
 
 module _ (step : Step) where
   -- a step of one kind is in range where the kind's test says so, one of another where what is read of it is

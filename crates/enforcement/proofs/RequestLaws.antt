@@ -4,50 +4,45 @@ use mathlib.Core.Path.{◌≡◌, refl, sym, ap, ap₂, ◌∙◌}
 use mathlib.Core.Bool.{Bool, true, false, not}
 use mathlib.Core.Logic.{◌⊎◌, inl, inr}
 use mathlib.Core.List.{List, [], ◌∷◌}
-use Prim.Native.Nat.{ℕ, zero, suc, ◌+◌, ◌*◌, ◌<◌}
+use Prim.Native.Nat.{ℕ, zero, suc, ◌+◌, ◌*◌, ◌<◌, ◌≤◌}
 use native.Mathlib.Nat.{zero-add, add-zero}
 use native.Mathlib.Omega.{arith}
-use lib.ListN.{length, set}
+use lib.ListN.{length, set, replicate}
+use lib.Seq.{paste}
+use native.Mathlib.Numerals.{add-one}
+use Rattle.std.proofs.lemmas.List.Edits.{paste_none, fill_from_more}
 use Rattle.sets.specs.Sets.{member, difference, count}
 use Rattle.rules.specs.Families.{view, word_at}
 use Rattle.rules.specs.declared.families.Rule.{Rule}
-use Rattle.steps.specs.declared.lowest.Lowest.{Lowest}
-use Rattle.steps.specs.declared.lowest.Lowest.TheVariants.{Unbroken, BrokenAt}
-use Rattle.steps.specs.Lowest.{lowest}
+use Rattle.std.specs.Prelude.{Option, Some, None}
+use Rattle.rules.specs.Lowest.{lowest}
 use Rattle.steps.specs.Pairs.{ended_pairs, pair_count}
 use Rattle.selection.specs.Selection.{selects, selected_number}
 use Rattle.steps.specs.declared.actions.Action.{Action}
 use Rattle.steps.specs.declared.actions.Action.TheVariants.{Finish}
 use Rattle.selection.specs.Judging.{judged_of, reads_held}
 use Rattle.selection.specs.declared.judging.Judged.{Judged}
+use Rattle.rights.proofs.Carrying.{carries-word}
 use Rattle.selection.proofs.HeldUnread.{held-unread}
 use Rattle.enforcement.specs.States.{held_roles}
 use Rattle.steps.specs.Steps.{is_event}
-use Rattle.enforcement.specs.Steps.{Checked, passes, refuses, check, target, with_history, emptied}
+use Rattle.enforcement.specs.Steps.{Checked, passes, check, target, with_history, emptied}
 use Rattle.enforcement.specs.Gate.{tests_selected, refused_next, request_next, passed_next, checked_next}
-use Rattle.enforcement.specs.Deciding.{decide, request_of, plain_next, event_of}
+use Rattle.enforcement.specs.Deciding.{decide, request_of, plain_next}
 use Rattle.enforcement.specs.declared.states.State.{State}
-use Rattle.steps.specs.declared.answers.Answer.TheVariants.{Granted, Broken, Refused}
+use Rattle.steps.specs.declared.answers.Answer.TheVariants.{Granted, Broken}
 use Rattle.enforcement.proofs.EndedPairs.{nothing-lost, none-ended}
 
 -- ---- a step by its checks
 
 module _ (rules : List Rule) (s : State) (action : Action) where
-  pub decide-refused : (number : ℕ) → check s action ≡ refuses number → refused_next s (Refused number) ≡ decide rules s action
-  unfolding decide checked_next
-  decide-refused number e = sym (ap (λ (c : Checked). checked_next c rules s action) e)
-
   pub decide-request : check s action ≡ passes → is_event action ≡ false → request_of rules s action (target s action) ≡ decide rules s action
   unfolding decide checked_next passed_next request_of
   decide-request e request = sym (ap (λ (c : Checked). checked_next c rules s action) e ∙ ap (λ (b : Bool). passed_next b rules s action) request)
 
-  pub decide-event : check s action ≡ passes → is_event action ≡ true → event_of rules s.active (target s action) action ≡ decide rules s action
-  unfolding decide checked_next passed_next event_of
-  decide-event e event = sym (ap (λ (c : Checked). checked_next c rules s action) e ∙ ap (λ (b : Bool). passed_next b rules s action) event)
-
 -- ---- a request that selects no rule
 
-lowest-none : (test : Rule → Bool) (n : ℕ) (rules : List Rule) → ((rule : Rule) → test rule ≡ true) → lowest test n rules ≡ Unbroken
+lowest-none : (test : Rule → Bool) (n : ℕ) (rules : List Rule) → ((rule : Rule) → test rule ≡ true) → lowest test n rules ≡ None
 unfolding lowest
 lowest-none test n [] h = refl
 lowest-none test n (rule ∷ rules) h = rw (h rule) (lowest-none test (suc n) rules h)
@@ -61,6 +56,14 @@ pub request-free : (rules : List Rule) (s : State) (action : Action) (after : St
 unfolding request_of request_next
 request-free rules s action after free same =
     rw (lowest-none (tests_selected (selects action) after) 1 rules (λ rule. rw (free rule)), number-none (selects action) rules free, same, none-ended s.active)
+
+-- a part of a list that is filled with empty sets
+pub emptied-part : (k : ℕ) (words : List ℕ) (start : ℕ) → start + k ≤ length words → paste words start (replicate k 0) k ≡ emptied k words start
+unfolding emptied
+emptied-part zero words start within = sym (paste_none words start [])
+emptied-part (suc k) words start within =
+    ap (λ (n : ℕ). paste words start (replicate n 0) n) (sym (add-one k))
+    ∙ sym (fill_from_more words start k 0 (omega arith)) ∙ ap (λ (l : List ℕ). set l (start + k) 0) (emptied-part k words start (omega arith))
 
 -- finish passes and selects nothing
 pub finish-granted : (rules : List Rule) (s : State) (o : ℕ) → plain_next (with_history s (emptied 32 s.history (o * 32))) ≡ decide rules s (Finish o)
@@ -98,7 +101,7 @@ module _ (rules : List Rule) (s after : State) (action : Action) (judged : Judge
   judged-after : judged ≡ judged_with action after rules (held_roles after)
   judged-after = is ∙ judged-same rules after action roles handed
 
-  lowest-of : (low : Lowest) → lowest (tests_selected (selects action) after) 1 rules ≡ low → judged.broken ≡ low
+  lowest-of : (low : Option ℕ) → lowest (tests_selected (selects action) after) 1 rules ≡ low → judged.broken ≡ low
   unfolding judged_of
   lowest-of low e = ap (λ (j : Judged). j.broken) judged-after ∙ e
 
@@ -106,38 +109,29 @@ module _ (rules : List Rule) (s after : State) (action : Action) (judged : Judge
   unfolding judged_of
   number_of = ap (λ (j : Judged). j.selected) judged-after
 
-  pub request-granted : (ended : ℕ) → judged.broken ≡ Unbroken → ended ≡ pair_count (ended_pairs s.active after.active) → record { state = after; answer = Granted judged.selected ended } ≡ request_of rules s action after
+  pub request-granted : (ended : ℕ) → judged.broken ≡ None → ended ≡ pair_count (ended_pairs s.active after.active) → record { state = after; answer = Granted judged.selected ended } ≡ request_of rules s action after
   unfolding request_of request_next
   request-granted ended e count = go (lowest (tests_selected (selects action) after) 1 rules) refl
     where
-      go : (low : Lowest) → lowest (tests_selected (selects action) after) 1 rules ≡ low → record { state = after; answer = Granted judged.selected ended } ≡ request_next (selected_number (selects action) rules) s after low
-      go Unbroken l = ap₂ (λ (n m : ℕ). record { state = after; answer = Granted n m }) number_of count
-      go (BrokenAt n) l = absurd (let h = sym e ∙ lowest-of (BrokenAt n) l in let clash : ◌≡◌ {A = ℕ} 0 1 = cc in omega arith)
+      go : (low : Option ℕ) → lowest (tests_selected (selects action) after) 1 rules ≡ low → record { state = after; answer = Granted judged.selected ended } ≡ request_next (selected_number (selects action) rules) s after low
+      go None l = ap₂ (λ (n m : ℕ). record { state = after; answer = Granted n m }) number_of count
+      go (Some n) l = absurd (let h = sym e ∙ lowest-of (Some n) l in let clash : ◌≡◌ {A = ℕ} 0 1 = cc in omega arith)
 
-  pub request-broken : (rule : ℕ) → judged.broken ≡ BrokenAt rule → refused_next s (Broken rule judged.selected) ≡ request_of rules s action after
+  pub request-broken : (rule : ℕ) → judged.broken ≡ Some rule → refused_next s (Broken rule judged.selected) ≡ request_of rules s action after
   unfolding request_of request_next
   request-broken rule e = go (lowest (tests_selected (selects action) after) 1 rules) refl
     where
-      go : (low : Lowest) → lowest (tests_selected (selects action) after) 1 rules ≡ low → refused_next s (Broken rule judged.selected) ≡ request_next (selected_number (selects action) rules) s after low
-      go Unbroken l = absurd (let h = sym e ∙ lowest-of Unbroken l in let clash : ◌≡◌ {A = ℕ} 0 1 = cc in omega arith)
-      go (BrokenAt n) l =
-          let h : BrokenAt rule ≡ BrokenAt n = sym e ∙ lowest-of (BrokenAt n) l in
+      go : (low : Option ℕ) → lowest (tests_selected (selects action) after) 1 rules ≡ low → refused_next s (Broken rule judged.selected) ≡ request_next (selected_number (selects action) rules) s after low
+      go None l = absurd (let h = sym e ∙ lowest-of None l in let clash : ◌≡◌ {A = ℕ} 0 1 = cc in omega arith)
+      go (Some n) l =
+          let h : Some rule ≡ Some n = sym e ∙ lowest-of (Some n) l in
           let same : rule ≡ n = cc in
           ap₂ (λ (k m : ℕ). refused_next s (Broken k m)) same number_of
-
--- ---- a request that has passed its checks, by the judgement of its target
-
-module _ (rules : List Rule) (s after : State) (action : Action) (judged : Judged) (roles : List ℕ) (is : judged ≡ judged_with action after rules roles) (handed : HandedOver after action roles) (pass : check s action ≡ passes) (request : is_event action ≡ false) (aimed : after ≡ target s action) where
-  decided-at : request_of rules s action after ≡ decide rules s action
-  decided-at = ap (request_of rules s action) aimed ∙ decide-request rules s action pass request
-
-  pub granted-decided : (ended : ℕ) → judged.broken ≡ Unbroken → ended ≡ pair_count (ended_pairs s.active after.active) → record { state = after; answer = Granted judged.selected ended } ≡ decide rules s action
-  granted-decided ended e count = request-granted rules s after action judged roles is handed ended e count ∙ decided-at
-
-  pub broken-decided : (rule : ℕ) → judged.broken ≡ BrokenAt rule → refused_next s (Broken rule judged.selected) ≡ decide rules s action
-  broken-decided rule e = request-broken rules s after action judged roles is handed rule e ∙ decided-at
 
 -- ---- what the code of a step asks, as its checks say it
 
 pub not-told : {asked told answer : Bool} → asked ≡ told → not asked ≡ answer → not told ≡ answer
 not-told e h = sym (ap not e) ∙ h
+
+-- what a role's own word says of its permissions
+pub ruleset carried_permissions = (carries-word)

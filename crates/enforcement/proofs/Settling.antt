@@ -1,6 +1,13 @@
 -- Rounds by a plan for the selected rules leave what the rounds of the gate leave.
 -- Assumes nothing.
-use mathlib.Core.Path.{◌≡◌}
+use mathlib.Core.Path.{◌≡◌, ◌∙◌}
+use native.Mathlib.Decide.{dec_lt}
+use native.Mathlib.Omega.{arith}
+use Rattle.std.proofs.lemmas.List.{get_or_past}
+use Rattle.sets.specs.Sets.{member, union_of}
+use Rattle.sets.proofs.Bounded.{any_of}
+use Rattle.sets.proofs.Built.{member-union-of}
+use Rattle.sets.proofs.Width.{within-lt}
 use mathlib.Core.Bool.{Bool, true}
 use mathlib.Core.List.{List}
 use Prim.Native.Nat.{ℕ, suc, ◌^◌, ◌<◌}
@@ -14,7 +21,15 @@ use Rattle.selection.proofs.Settling.{round-part, part_small, settled_same, sift
 use Rattle.enforcement.specs.Rounds.{stays, round, remaining}
 use Rattle.enforcement.specs.Deciding.{Planned}
 use Rattle.enforcement.specs.declared.states.State.{State}
-use Rattle.enforcement.specs.declared.events.Plan.{Plan}
+use Rattle.enforcement.specs.declared.plans.Plan.{Plan}
+
+-- what is active somewhere is below the width, so each set is
+pub live-small : (active : List ℕ) → length active ≡ 32 → union_of 32 (word_at active) < 2 ^ 32 → (j : ℕ) → word_at active j < 2 ^ 32
+live-small active long live j = go (dec_lt j 32)
+  where
+    go : Dec (j < 32) → word_at active j < 2 ^ 32
+    go (yes below) = within-lt 32 (word_at active j) (union_of 32 (word_at active)) live (λ r e. member-union-of 32 r (word_at active) ∙ any_of 32 j (λ i. member (word_at active i) r) below e)
+    go (no past) = let none : word_at active j ≡ 0 = get_or_past active j 0 (omega (arith, long, past)) in rw none (omega arith)
 
 module _ (selected : Rule → Bool) (rules : List Rule) (s : State) (plan : Plan) (long : length s.active ≡ 32) (small : (j : ℕ) → word_at s.active j < 2 ^ 32) (planned : Planned selected rules s plan) where
   plan-round : (l : List ℕ) → Part l s.active → plan_round plan.dead plan.out plan.needs l ≡ round selected rules s l

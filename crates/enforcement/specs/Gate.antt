@@ -1,12 +1,10 @@
 -- Our gate: it tests the selected rules alone. That this gives what the plain gate gives is proved in proofs/Agreement.antt.
 -- Assumes nothing.
-use Rattle.std.specs.Prelude.{ℕ, Bool, true, false, not, cond, ◌&&◌, ◌||◌, List, [], ◌∷◌}
+use Rattle.std.specs.Prelude.{ℕ, Bool, true, false, not, cond, ◌&&◌, ◌||◌, List, [], ◌∷◌, Option, Some, None}
 use Rattle.rules.specs.Acceptance.{rules_of, list_accepted}
 use Rattle.rules.specs.declared.families.Rule.{Rule}
 use Rattle.rules.specs.declared.lists.RuleList.{RuleList}
-use Rattle.steps.specs.declared.lowest.Lowest.{Lowest}
-use Rattle.steps.specs.declared.lowest.Lowest.TheVariants.{Unbroken, BrokenAt}
-use Rattle.steps.specs.Lowest.{lowest}
+use Rattle.rules.specs.Lowest.{lowest}
 use Rattle.steps.specs.Pairs.{ended_pairs, pair_count}
 use Rattle.selection.specs.Selection.{selects, selected_number}
 use Rattle.steps.specs.declared.actions.Action.{Action}
@@ -35,9 +33,9 @@ abbrev pub refused_next : State → Answer → Next
 refused_next s answer = record { state = s; answer = answer }
 
 -- "A 30 carries the lowest broken rule and the number selected."
-unfoldable pub request_next : ℕ → State → State → Lowest → Next
-request_next selected s after Unbroken = granted_next selected s after
-request_next selected s after (BrokenAt rule) = refused_next s (Broken rule selected)
+unfoldable pub request_next : ℕ → State → State → Option ℕ → Next
+request_next selected s after None = granted_next selected s after
+request_next selected s after (Some rule) = refused_next s (Broken rule selected)
 
 unfoldable pub passed_next : Bool → List Rule → State → Action → Next
 passed_next false rules s action =

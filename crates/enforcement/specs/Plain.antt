@@ -1,14 +1,12 @@
 -- Document 01, 'The plain gate': it tests every rule over the whole target, and at an event keeps the largest part of the target's
 -- active pairs. It stands on what both gates share and on nothing else, as a relation and as a function over all parts.
 -- Assumes nothing.
-use Rattle.std.specs.Prelude.{ℕ, zero, suc, ◌+◌, ◌*◌, ◌/◌, ◌%◌, ◌≡◌, Bool, true, false, not, cond, ◌&&◌, ◌||◌, List, [], ◌∷◌, ◌++◌, eqb}
+use Rattle.std.specs.Prelude.{ℕ, zero, suc, ◌+◌, ◌*◌, ◌/◌, ◌%◌, ◌≡◌, Bool, true, false, not, cond, ◌&&◌, ◌||◌, List, [], ◌∷◌, ◌++◌, eqb, Option, Some, None}
 use Rattle.sets.specs.Sets.{subset}
 use Rattle.rules.specs.Acceptance.{every, rules_of}
 use Rattle.rules.specs.declared.families.Rule.{Rule}
 use Rattle.rules.specs.declared.lists.RuleList.{RuleList}
-use Rattle.steps.specs.declared.lowest.Lowest.{Lowest}
-use Rattle.steps.specs.declared.lowest.Lowest.TheVariants.{Unbroken, BrokenAt}
-use Rattle.steps.specs.Lowest.{lowest}
+use Rattle.rules.specs.Lowest.{lowest}
 use Rattle.steps.specs.Pairs.{ended_pairs, pair_count}
 use Rattle.steps.specs.declared.actions.Action.{Action}
 use Rattle.enforcement.specs.States.{rule_holds}
@@ -23,7 +21,7 @@ abbrev pub obeys : List Rule → State → Bool
 obeys rules s = every (λ rule. rule_holds rule s) rules
 
 -- the lowest rule that is broken in a state
-abbrev pub lowest_broken : List Rule → State → Lowest
+abbrev pub lowest_broken : List Rule → State → Option ℕ
 lowest_broken rules s = lowest (λ rule. rule_holds rule s) 1 rules
 
 -- what is compared of a step that leads from one state to the next
@@ -43,9 +41,9 @@ pub data Plain (list : RuleList) (s : State) (step : Step) : Verdict → Type 0 
   -- "It makes the same checks before 30; if one refuses, it keeps the old state."; 2026-05, of 53 and 54: "the plain gate checks them too"
   refusing : (number : ℕ) → check_step list s step ≡ refuses number → Plain list s step (verdict s (refused number) 0 s)
   -- "For a request .. it tests every rule over the whole target; if any is broken it answers 30 with the lowest and keeps the old state"
-  breaking : (rule : ℕ) → check_step list s step ≡ passes → is_event (action_of step) ≡ false → lowest_broken (rules_of list) (target s (action_of step)) ≡ BrokenAt rule → Plain list s step (verdict s (refused 30) rule s)
+  breaking : (rule : ℕ) → check_step list s step ≡ passes → is_event (action_of step) ≡ false → lowest_broken (rules_of list) (target s (action_of step)) ≡ Some rule → Plain list s step (verdict s (refused 30) rule s)
   -- "else it takes the target"
-  taking : check_step list s step ≡ passes → is_event (action_of step) ≡ false → lowest_broken (rules_of list) (target s (action_of step)) ≡ Unbroken → Plain list s step (verdict s granted 0 (target s (action_of step)))
+  taking : check_step list s step ≡ passes → is_event (action_of step) ≡ false → lowest_broken (rules_of list) (target s (action_of step)) ≡ None → Plain list s step (verdict s granted 0 (target s (action_of step)))
   -- "For an event it keeps the largest part of the target's active pairs under which every rule holds"
   ending : (l : List ℕ) → check_step list s step ≡ passes → is_event (action_of step) ≡ true → Largest (obeys (rules_of list)) (target s (action_of step)) l → Plain list s step (verdict s granted 0 (with_active (target s (action_of step)) l))
 
@@ -103,9 +101,9 @@ is_largest test s l = test (with_active s l) && all_lists (λ m. not (test (with
 unfoldable pub largest_part : (State → Bool) → State → List ℕ
 largest_part test s = first_list (is_largest test s) (parts s.active)
 
-unfoldable pub plain_request : State → State → Lowest → Verdict
-plain_request s after Unbroken = verdict s granted 0 after
-plain_request s after (BrokenAt rule) = verdict s (refused 30) rule s
+unfoldable pub plain_request : State → State → Option ℕ → Verdict
+plain_request s after None = verdict s granted 0 after
+plain_request s after (Some rule) = verdict s (refused 30) rule s
 
 unfoldable pub plain_passed : Bool → List Rule → State → State → Verdict
 plain_passed false rules s after = plain_request s after (lowest_broken rules after)

@@ -1,7 +1,7 @@
 -- Document 01, 'The plain gate': "A list of steps is handed over whole, with a list for its answers; entries beyond the steps stay. First
 -- 40, then 18, refuse the list as a whole, and neither gate then runs a step of it".
 -- Assumes nothing.
-use Rattle.std.specs.Prelude.{ℕ, ◌≤◌, ◌≡◌, true, cond, ◌&&◌, List, [], ◌∷◌, ◌++◌, map, eqb, ltb, length, drop}
+use Rattle.std.specs.Prelude.{ℕ, ◌≤◌, ◌≡◌, true, cond, ◌&&◌, List, [], ◌∷◌, ◌++◌, map, eqb, ltb, length, drop, Result, Ok, Err}
 use Rattle.rules.specs.Acceptance.{rules_of, list_accepted}
 use Rattle.rules.specs.declared.families.Rule.{Rule}
 use Rattle.rules.specs.declared.lists.RuleList.{RuleList}
@@ -16,7 +16,8 @@ use Rattle.enforcement.specs.declared.states.State.{State}
 use Rattle.steps.specs.declared.steps.Step.{Step}
 use Rattle.enforcement.specs.declared.states.Next.{Next}
 use Rattle.enforcement.specs.declared.runs.Ran.{Ran}
-use Rattle.enforcement.specs.declared.runs.Admission.{Admission}
+use Rattle.enforcement.specs.declared.runs.RunRefusal.{RunRefusal}
+use Rattle.enforcement.specs.declared.runs.RunRefusal.TheVariants.{NotAccepted, NoRoom}
 
 -- ---- our gate
 
@@ -24,10 +25,14 @@ use Rattle.enforcement.specs.declared.runs.Admission.{Admission}
 unfoldable pub refusal_of : RuleList → State → ℕ → ℕ → ℕ
 refusal_of list s steps room = cond (list_accepted list && state_accepted s) (cond (ltb room steps) 18 0) 40
 
--- and how many of the steps run
-unfoldable pub admission_of : RuleList → State → ℕ → ℕ → Admission
-admission_of list s steps room =
-    record { number = refusal_of list s steps room; count = cond (eqb (refusal_of list s steps room) 0) steps 0 }
+abbrev pub run_number : RunRefusal → ℕ
+run_number NotAccepted = 40
+run_number NoRoom = 18
+
+-- the number of an admission: 0 where the steps run
+abbrev pub admitted : Result Unit RunRefusal → ℕ
+admitted (Ok passed) = 0
+admitted (Err refusal) = run_number refusal
 
 -- the state that the last step hands back
 unfoldable pub last_state : State → List Next → State

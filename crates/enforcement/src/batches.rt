@@ -1,14 +1,12 @@
 // A few steps at once, by value: for a caller that holds no list of them.
 ghost use Rattle.std.specs.Prelude.{◌≡◌};
-ghost use Rattle.enforcement.specs.Batches.{batch_run};
+ghost use Rattle.enforcement.specs.Batches.{batch_run, batch_steps};
 
-use crate::acceptance::is_accepted;
-use crate::configurations::NextConfiguration;
 use crate::states::State;
 use rules::RuleList;
-use steps::{Answer, Step};
+use steps::{Answer, Refusal, Step};
 
-// The first `length` steps; all of them where the length is above their number.
+// The first `length` steps; all of them where the length is above their number. An array with its length: the gate takes no heap.
 #[derive(Clone, Copy)]
 pub struct Batch {
     pub steps: [Step; 32],
@@ -18,9 +16,15 @@ pub struct Batch {
 impl Batch {
     // The most steps that a batch holds.
     pub const MOST: usize = 32;
+
+    fn used(&self) -> &[Step]
+        ensures { result.now ≡ batch_steps self.now }
+    {
+        &self.steps[..self.length.min(Batch::MOST)]
+    }
 }
 
-// The answer to one step.
+// The answer to one step. A public type of one field: it stays.
 #[derive(Clone, Copy)]
 pub struct Entry {
     pub answer: Answer,
@@ -40,33 +44,23 @@ impl State {
         ensures { result ≡ batch_run list self batch }
     {
         let mut entries = [Entry {
-            answer: Answer::Refused { number: 40 },
+            answer: Answer::Refused {
+                number: Refusal::NotAccepted.number(),
+            },
         }; 32];
-        let loans = self.loans;
-        let sessions = self.sessions;
-        let time = self.time;
-        if !(list.is_accepted() & is_accepted(loans, sessions, &self.active, time)) {
+        if !self.is_accepted_under(&list) {
             return BatchRun {
                 state: self,
                 entries,
             };
         }
-        // The history stays where it is, and the rest of the state where the last step handed it back.
-        let mut last = NextConfiguration {
-            configuration: self.configuration(),
-            answer: Answer::Refused { number: 40 },
-        };
-        let length = batch.length;
-        let mut i: usize = 0;
-        while (i < length) & (i < Batch::MOST) {
-            let step = batch.steps[i];
-            last = last.configuration.decided(list, step, &mut self.history);
-            let answer = last.answer;
-            entries[i] = Entry { answer };
-            i += 1;
+        for (i, step) in batch.used().iter().enumerate() {
+            entries[i] = Entry {
+                answer: self.decide(&list, *step),
+            };
         }
         BatchRun {
-            state: last.configuration.with_history(self.history),
+            state: self,
             entries,
         }
     }

@@ -3,9 +3,10 @@
 
 mod acceptance;
 pub mod batches;
-mod configurations;
+mod deciding;
 mod events;
 mod methods;
+mod plans;
 mod requests;
 mod runs;
 pub mod states;

@@ -1,367 +1,300 @@
 // The requests, with numbers in range: the checks of the table's second column, the change, and the old word put back where a selected rule is
 // broken.
-ghost use Rattle.std.specs.Prelude.{◌≡◌, false, List, ℕ, ◌<◌, ◌≤◌, length};
-ghost use Rattle.rules.specs.Acceptance.{rules_of};
-ghost use Rattle.rules.specs.Families.{is_active_for};
-ghost use Rattle.selection.specs.Judging.{reads_held};
-ghost use Rattle.enforcement.specs.Deciding.{decide, state_with, next_of, with_user_roles, with_session_roles, with_loan, request_by};
+#![tactic(auto, using(crate::proofs::RequestLaws::carried_permissions), unfolding(crate::specs::Deciding::decide, crate::specs::Deciding::request_of, crate::specs::Steps::check, crate::specs::Steps::target, crate::specs::Gate::checked_next, crate::specs::Gate::passed_next, loans::specs::Meant::meant, rights::specs::Rights::is_carried))]
 
-use crate::configurations::{Configuration, NextConfiguration};
+ghost use Rattle.std.specs.Prelude.{◌≡◌, false, List, ℕ, ◌<◌, ◌≤◌};
+ghost use Rattle.rules.specs.Acceptance.{rules_of};
+ghost use Rattle.rules.specs.Families.{view, is_active_for};
+ghost use Rattle.rules.specs.declared.families.Rule.{Rule};
+ghost use Rattle.selection.specs.Selection.{selects};
+ghost use Rattle.selection.specs.Judging.{judged_of, reads_held};
+ghost use Rattle.enforcement.specs.Deciding.{decide, next_of, answered, with_user_roles, with_role_permissions, with_session_roles, with_users_done, with_loan, request_by};
+
+use crate::states::State;
 use loans::{Loan, Which, has_ended};
 use places::Position;
 use rights::is_carried;
-use rules::{RuleList, Session};
-use selection::judge;
-use sets::{word32, word64};
+use rules::{Facts, RuleList, Session};
+use selection::{Judged, judge};
+use sets::Set;
 use steps::pairs::fewer;
-use steps::{Action, Lowest};
+use steps::{Action, Answer, Refusal};
 
-impl Configuration {
-    pub(crate) fn assign(
-        self,
-        list: RuleList,
+impl State {
+    pub(crate) fn assign_role(
+        &mut self,
+        list: &RuleList,
         user: usize,
         role: usize,
-        history: &[u64; 1024],
-    ) -> NextConfiguration
-        requires { (list.length ≤ 128) × (user < 64) × (role < 32) }
-        ensures { next_of result history.now ≡ decide (rules_of list) (state_with self history.now) (Action.Assign user role) }
+    ) -> Result<Answer, Refusal>
+        requires { user < 64 }
+        ensures { next_of self.new (answered result) ≡ decide (rules_of list.now) self.old (Action.Assign user role) }
     {
-        let assigned = self.assigned;
-        let loans = self.loans;
-        if loans.is_held(assigned, user, role) {
-            return self.refused(24);
+        if self.loans.is_held(&self.assigned, user, role) {
+            return Err(Refusal::Already);
         }
-        let roles = self.assigned[user];
-        let more = word32::with(roles, role);
-        self.with_assigned(list, Action::Assign { user, role }, user, more, history)
+        let roles = self.assigned[user].with(role);
+        Ok(self.change_assigned(list, Action::Assign { user, role }, user, roles))
     }
 
-    pub(crate) fn withdraw(
-        self,
-        list: RuleList,
+    pub(crate) fn withdraw_role(
+        &mut self,
+        list: &RuleList,
         user: usize,
         role: usize,
-        history: &[u64; 1024],
-    ) -> NextConfiguration
-        requires { (list.length ≤ 128) × (user < 64) × (role < 32) }
-        ensures { next_of result history.now ≡ decide (rules_of list) (state_with self history.now) (Action.Withdraw user role) }
+    ) -> Result<Answer, Refusal>
+        requires { user < 64 }
+        ensures { next_of self.new (answered result) ≡ decide (rules_of list.now) self.old (Action.Withdraw user role) }
     {
-        let roles = self.assigned[user];
-        if !word32::member(roles, role) {
-            return self.refused(25);
+        if !self.assigned[user].contains(role) {
+            return Err(Refusal::Missing);
         }
-        let sessions = self.sessions;
-        let loans = self.loans;
-        if is_active_for(sessions, &self.active, user, role)
-            | loans.has_some(Which::LentOut { lender: user, role })
+        if self.is_active_for(user, role)
+            || self.loans.has_some(Which::LentOut { lender: user, role })
         {
-            return self.refused(27);
+            return Err(Refusal::InUse);
         }
-        let less = word32::without(roles, role);
-        self.with_assigned(list, Action::Withdraw { user, role }, user, less, history)
+        let roles = self.assigned[user].without(role);
+        Ok(self.change_assigned(list, Action::Withdraw { user, role }, user, roles))
     }
 
-    fn with_assigned(
-        mut self,
-        list: RuleList,
+    // Other roles of a user.
+    fn change_assigned(
+        &mut self,
+        list: &RuleList,
         action: Action,
         user: usize,
         roles: u32,
-        history: &[u64; 1024],
-    ) -> NextConfiguration
-        requires { (list.length ≤ 128) × (user < 64) }
-        ensures { next_of result history.now ≡ request_by (rules_of list) (state_with self history.now) action (with_user_roles user roles) }
+    ) -> Answer
+        requires { user < 64 }
+        ensures { next_of self.new result ≡ request_by (rules_of list.now) self.old action (with_user_roles user roles) }
     {
         let old = self.assigned[user];
         self.assigned[user] = roles;
-        let assigned = self.assigned;
-        let loans = self.loans;
-        let held = loans.held(assigned);
-        let sessions = self.sessions;
-        let time = self.time;
-        let judged = judge(
-            list,
-            action,
-            &self.assigned,
-            &held,
-            &self.granted,
-            sessions,
-            &self.active,
-            history,
-            time,
-        );
-        let broken = judged.broken;
-        let selected = judged.selected;
-        let Lowest::BrokenAt(rule) = broken else {
-            return self.granted(selected, 0);
-        };
-        self.assigned[user] = old;
-        self.refused_by_rule(rule, selected)
-    }
-
-    pub(crate) fn grant(
-        mut self,
-        list: RuleList,
-        role: usize,
-        permission: usize,
-        history: &[u64; 1024],
-    ) -> NextConfiguration
-        requires { (list.length ≤ 128) × (role < 32) × (permission < 32) }
-        ensures { next_of result history.now ≡ decide (rules_of list) (state_with self history.now) (Action.Grant role permission) }
-    {
-        let old = self.granted[role];
-        if word32::member(old, permission) {
-            return self.refused(24);
+        let held = self.loans.held(&self.assigned);
+        let judged = self.judge(list, action, &held);
+        if let Some(rule) = judged.broken {
+            self.assigned[user] = old;
+            return broken(rule, judged.selected);
         }
-        self.granted[role] = word32::with(old, permission);
-        let sessions = self.sessions;
-        let time = self.time;
-        let judged = judge(
-            list,
-            Action::Grant { role, permission },
-            &self.assigned,
-            &self.assigned,
-            &self.granted,
-            sessions,
-            &self.active,
-            history,
-            time,
-        );
-        let broken = judged.broken;
-        let selected = judged.selected;
-        let Lowest::BrokenAt(rule) = broken else {
-            return self.granted(selected, 0);
-        };
-        self.granted[role] = old;
-        self.refused_by_rule(rule, selected)
+        granted(judged.selected, 0)
     }
 
-    pub(crate) fn take(
-        mut self,
-        list: RuleList,
+    pub(crate) fn grant_permission(
+        &mut self,
+        list: &RuleList,
         role: usize,
         permission: usize,
-    ) -> NextConfiguration
-        requires { (list.length ≤ 128) × (role < 32) × (permission < 32) }
-        ensures { (history : List ℕ) → next_of result history ≡ decide (rules_of list) (state_with self history) (Action.Take role permission) }
+    ) -> Result<Answer, Refusal>
+        requires { role < 32 }
+        ensures { next_of self.new (answered result) ≡ decide (rules_of list.now) self.old (Action.Grant role permission) }
     {
         let permissions = self.granted[role];
-        if !word32::member(permissions, permission) {
-            return self.refused(25);
+        if permissions.contains(permission) {
+            return Err(Refusal::Already);
         }
-        self.granted[role] = word32::without(permissions, permission);
-        self.granted(0, 0)
+        let action = Action::Grant { role, permission };
+        Ok(self.change_granted(list, action, role, permissions.with(permission)))
     }
 
-    pub(crate) fn open_session(
-        mut self,
-        list: RuleList,
-        session: usize,
-        user: usize,
-    ) -> NextConfiguration
-        requires { (list.length ≤ 128) × (session < 32) × (user < 64) }
-        ensures { (history : List ℕ) → next_of result history ≡ decide (rules_of list) (state_with self history) (Action.Open session user) }
+    // Other permissions of a role.
+    fn change_granted(
+        &mut self,
+        list: &RuleList,
+        action: Action,
+        role: usize,
+        permissions: u32,
+    ) -> Answer
+        requires { (role < 32) × (reads_held action ≡ false) }
+        ensures { next_of self.new result ≡ request_by (rules_of list.now) self.old action (with_role_permissions role permissions) }
     {
-        let old = self.sessions[session];
-        if old.is_open {
-            return self.refused(22);
+        let old = self.granted[role];
+        self.granted[role] = permissions;
+        let judged = self.judge(list, action, &self.assigned);
+        if let Some(rule) = judged.broken {
+            self.granted[role] = old;
+            return broken(rule, judged.selected);
+        }
+        granted(judged.selected, 0)
+    }
+
+    pub(crate) fn take_permission(
+        &mut self,
+        role: usize,
+        permission: usize,
+    ) -> Result<Answer, Refusal>
+        requires { role < 32 }
+        ensures { (rules : List Rule) → next_of self.new (answered result) ≡ decide rules self.old (Action.Take role permission) }
+    {
+        if !self.granted[role].contains(permission) {
+            return Err(Refusal::Missing);
+        }
+        self.granted[role] = self.granted[role].without(permission);
+        Ok(granted(0, 0))
+    }
+
+    pub(crate) fn start_session(&mut self, session: usize, user: usize) -> Result<Answer, Refusal>
+        requires { (session < 32) × (user < 64) }
+        ensures { (rules : List Rule) → next_of self.new (answered result) ≡ decide rules self.old (Action.Open session user) }
+    {
+        if self.sessions[session].is_open {
+            return Err(Refusal::SessionOpen);
         }
         self.sessions[session] = Session {
             is_open: true,
             user: user as u32,
             position: Position::Unknown,
         };
-        self.granted(0, 0)
+        Ok(granted(0, 0))
     }
 
-    pub(crate) fn activate(
-        self,
-        list: RuleList,
+    pub(crate) fn activate_role(
+        &mut self,
+        list: &RuleList,
         session: usize,
         role: usize,
-        history: &[u64; 1024],
-    ) -> NextConfiguration
-        requires { (list.length ≤ 128) × (session < 32) × (role < 32) }
-        ensures { next_of result history.now ≡ decide (rules_of list) (state_with self history.now) (Action.Activate session role) }
+    ) -> Result<Answer, Refusal>
+        requires { session < 32 }
+        ensures { next_of self.new (answered result) ≡ decide (rules_of list.now) self.old (Action.Activate session role) }
     {
         let place = self.sessions[session];
         if !place.is_open {
-            return self.refused(23);
+            return Err(Refusal::SessionNotOpen);
         }
         let roles = self.active[session];
-        if word32::member(roles, role) {
-            return self.refused(24);
+        if roles.contains(role) {
+            return Err(Refusal::Already);
         }
-        let assigned = self.assigned;
-        let loans = self.loans;
-        if !loans.is_held(assigned, place.user as usize, role) {
-            return self.refused(26);
+        if !self
+            .loans
+            .is_held(&self.assigned, place.user as usize, role)
+        {
+            return Err(Refusal::NotHeld);
         }
-        let more = word32::with(roles, role);
-        self.with_active(
-            list,
-            Action::Activate { session, role },
-            session,
-            more,
-            history,
-        )
+        let action = Action::Activate { session, role };
+        Ok(self.change_active(list, action, session, roles.with(role)))
     }
 
-    pub(crate) fn deactivate(
-        self,
-        list: RuleList,
+    pub(crate) fn deactivate_role(
+        &mut self,
+        list: &RuleList,
         session: usize,
         role: usize,
-        history: &[u64; 1024],
-    ) -> NextConfiguration
-        requires { (list.length ≤ 128) × (session < 32) × (role < 32) }
-        ensures { next_of result history.now ≡ decide (rules_of list) (state_with self history.now) (Action.Deactivate session role) }
+    ) -> Result<Answer, Refusal>
+        requires { session < 32 }
+        ensures { next_of self.new (answered result) ≡ decide (rules_of list.now) self.old (Action.Deactivate session role) }
     {
-        let place = self.sessions[session];
-        if !place.is_open {
-            return self.refused(23);
+        if !self.sessions[session].is_open {
+            return Err(Refusal::SessionNotOpen);
         }
         let roles = self.active[session];
-        if !word32::member(roles, role) {
-            return self.refused(25);
+        if !roles.contains(role) {
+            return Err(Refusal::Missing);
         }
-        let less = word32::without(roles, role);
-        self.with_active(
-            list,
-            Action::Deactivate { session, role },
-            session,
-            less,
-            history,
-        )
+        let action = Action::Deactivate { session, role };
+        Ok(self.change_active(list, action, session, roles.without(role)))
     }
 
-    fn with_active(
-        mut self,
-        list: RuleList,
+    // Other active roles of a session.
+    fn change_active(
+        &mut self,
+        list: &RuleList,
         action: Action,
         session: usize,
         roles: u32,
-        history: &[u64; 1024],
-    ) -> NextConfiguration
-        requires { (list.length ≤ 128) × (session < 32) × (reads_held action ≡ false) }
-        ensures { next_of result history.now ≡ request_by (rules_of list) (state_with self history.now) action (with_session_roles session roles) }
+    ) -> Answer
+        requires { (session < 32) × (reads_held action ≡ false) }
+        ensures { next_of self.new result ≡ request_by (rules_of list.now) self.old action (with_session_roles session roles) }
     {
         let old = self.active[session];
         self.active[session] = roles;
-        let sessions = self.sessions;
-        let time = self.time;
-        let judged = judge(
-            list,
-            action,
-            &self.assigned,
-            &self.assigned,
-            &self.granted,
-            sessions,
-            &self.active,
-            history,
-            time,
-        );
-        let broken = judged.broken;
-        let selected = judged.selected;
-        let Lowest::BrokenAt(rule) = broken else {
-            return self.granted(selected, fewer(old, roles));
-        };
-        self.active[session] = old;
-        self.refused_by_rule(rule, selected)
+        let judged = self.judge(list, action, &self.assigned);
+        if let Some(rule) = judged.broken {
+            self.active[session] = old;
+            return broken(rule, judged.selected);
+        }
+        granted(judged.selected, fewer(old, roles))
     }
 
-    pub(crate) fn access(
-        self,
-        list: RuleList,
+    pub(crate) fn access_object(
+        &mut self,
+        list: &RuleList,
         session: usize,
         permission: usize,
         object: usize,
-        history: &mut [u64; 1024],
-    ) -> NextConfiguration
-        requires { (list.length ≤ 128) × (session < 32) × (permission < 32) × (object < 32) × (length history.old ≡ 1024) }
-        ensures { next_of result history.new ≡ decide (rules_of list) (state_with self history.old) (Action.Access session permission object) }
+    ) -> Result<Answer, Refusal>
+        requires { (session < 32) × (permission < 32) × (object < 32) }
+        ensures { next_of self.new (answered result) ≡ decide (rules_of list.now) self.old (Action.Access session permission object) }
     {
         let place = self.sessions[session];
         if !place.is_open {
-            return self.refused(23);
+            return Err(Refusal::SessionNotOpen);
         }
-        let roles = self.active[session];
-        if !is_carried(&self.granted, roles, permission) {
-            return self.refused(28);
+        if !is_carried(&self.granted, self.active[session], permission) {
+            return Err(Refusal::NotCarried);
         }
         let index = object * 32 + permission;
-        let old = history[index];
-        history[index] = word64::with(old, place.user as usize);
-        let sessions = self.sessions;
-        let time = self.time;
+        let users = self.history[index].with(place.user as usize);
         let action = Action::Access {
             session,
             permission,
             object,
         };
-        let judged = judge(
-            list,
-            action,
-            &self.assigned,
-            &self.assigned,
-            &self.granted,
-            sessions,
-            &self.active,
-            history,
-            time,
-        );
-        let broken = judged.broken;
-        let selected = judged.selected;
-        let Lowest::BrokenAt(rule) = broken else {
-            return self.granted(selected, 0);
-        };
-        history[index] = old;
-        self.refused_by_rule(rule, selected)
+        Ok(self.change_history(list, action, index, users))
     }
 
-    pub(crate) fn finish(
-        self,
-        list: RuleList,
-        object: usize,
-        history: &mut [u64; 1024],
-    ) -> NextConfiguration
-        requires { (list.length ≤ 128) × (object < 32) × (length history.old ≡ 1024) }
-        ensures { next_of result history.new ≡ decide (rules_of list) (state_with self history.old) (Action.Finish object) }
+    // Other users who did a permission on an object.
+    fn change_history(
+        &mut self,
+        list: &RuleList,
+        action: Action,
+        index: usize,
+        users: u64,
+    ) -> Answer
+        requires { (index < 1024) × (reads_held action ≡ false) }
+        ensures { next_of self.new result ≡ request_by (rules_of list.now) self.old action (with_users_done index users) }
+    {
+        let old = self.history[index];
+        self.history[index] = users;
+        let judged = self.judge(list, action, &self.assigned);
+        if let Some(rule) = judged.broken {
+            self.history[index] = old;
+            return broken(rule, judged.selected);
+        }
+        granted(judged.selected, 0)
+    }
+
+    pub(crate) fn finish_object(&mut self, object: usize) -> Result<Answer, Refusal>
+        requires { object < 32 }
+        ensures { (rules : List Rule) → next_of self.new (answered result) ≡ decide rules self.old (Action.Finish object) }
     {
         let start = object * 32;
-        for i in 0..32 {
-            history[start + i] = 0;
-        }
-        self.granted(0, 0)
+        self.history[start..start + 32].fill(0);
+        Ok(granted(0, 0))
     }
 
-    pub(crate) fn lend(
-        self,
-        list: RuleList,
+    pub(crate) fn lend_role(
+        &mut self,
+        list: &RuleList,
         lender: usize,
         borrower: usize,
         role: usize,
         until: u64,
-        history: &[u64; 1024],
-    ) -> NextConfiguration
-        requires { (list.length ≤ 128) × (lender < 64) × (borrower < 64) × (role < 32) × (until ≤ 3155759999) }
-        ensures { next_of result history.now ≡ decide (rules_of list) (state_with self history.now) (Action.Lend lender borrower role until) }
+    ) -> Result<Answer, Refusal>
+        requires { (lender < 64) × (borrower < 64) × (role < 32) × (until ≤ 3155759999) }
+        ensures { next_of self.new (answered result) ≡ decide (rules_of list.now) self.old (Action.Lend lender borrower role until) }
     {
-        let roles = self.assigned[lender];
-        if !word32::member(roles, role) {
-            return self.refused(50);
+        if !self.assigned[lender].contains(role) {
+            return Err(Refusal::LenderLacks);
         }
-        let assigned = self.assigned;
-        let loans = self.loans;
-        if loans.is_held(assigned, borrower, role) {
-            return self.refused(24);
+        if self.loans.is_held(&self.assigned, borrower, role) {
+            return Err(Refusal::Already);
         }
         if has_ended(until, self.time) {
-            return self.refused(52);
+            return Err(Refusal::LoanEnded);
         }
-        if loans.is_full() {
-            return self.refused(51);
+        if self.loans.is_full() {
+            return Err(Refusal::LoansFull);
         }
         let action = Action::Lend {
             lender,
@@ -375,60 +308,61 @@ impl Configuration {
             borrower: borrower as u8,
             role: role as u8,
         };
-        self.with_loan(list, action, loan, history)
+        Ok(self.add_loan(list, action, loan))
     }
 
-    fn with_loan(
-        mut self,
-        list: RuleList,
-        action: Action,
-        loan: Loan,
-        history: &[u64; 1024],
-    ) -> NextConfiguration
-        requires { list.length ≤ 128 }
-        ensures { next_of result history.now ≡ request_by (rules_of list) (state_with self history.now) action (with_loan loan) }
+    fn add_loan(&mut self, list: &RuleList, action: Action, loan: Loan) -> Answer
+        ensures { next_of self.new result ≡ request_by (rules_of list.now) self.old action (with_loan loan) }
     {
         let old = self.loans;
-        let assigned = self.assigned;
-        let more = old.with(loan);
-        let held = more.held(assigned);
-        self.loans = more;
-        let sessions = self.sessions;
-        let time = self.time;
-        let judged = judge(
-            list,
-            action,
-            &self.assigned,
-            &held,
-            &self.granted,
-            sessions,
-            &self.active,
-            history,
-            time,
-        );
-        let broken = judged.broken;
-        let selected = judged.selected;
-        let Lowest::BrokenAt(rule) = broken else {
-            return self.granted(selected, 0);
+        self.loans = old.with(loan);
+        let held = self.loans.held(&self.assigned);
+        let judged = self.judge(list, action, &held);
+        if let Some(rule) = judged.broken {
+            self.loans = old;
+            return broken(rule, judged.selected);
+        }
+        granted(judged.selected, 0)
+    }
+
+    // The judgement of the state as a step has changed it, with the roles that users then hold. A step that selects no rule on what is held
+    // may hand in what is assigned.
+    fn judge(&self, list: &RuleList, action: Action, held: &[u32; 64]) -> Judged
+        ensures { result ≡ judged_of (selects action) (view self.now.assigned held.now self.now.granted self.now.sessions self.now.active self.now.history self.now.time) (rules_of list.now) }
+    {
+        let facts = Facts {
+            assigned: &self.assigned,
+            held,
+            granted: &self.granted,
+            sessions: &self.sessions,
+            active: &self.active,
+            history: &self.history,
+            time: self.time,
         };
-        self.loans = old;
-        self.refused_by_rule(rule, selected)
+        judge(list, action, facts)
+    }
+
+    // A user has a role active in some session of his.
+    fn is_active_for(&self, user: usize, role: usize) -> bool
+        ensures { result ≡ is_active_for self.now.sessions self.now.active user role }
+    {
+        for (i, session) in self.sessions.iter().enumerate() {
+            if session.user as usize == user && self.active[i].contains(role) {
+                return true;
+            }
+        }
+        false
     }
 }
 
-// A user has a role active in some session of his.
-fn is_active_for(sessions: [Session; 32], active: &[u32; 32], user: usize, role: usize) -> bool
-    ensures { result ≡ is_active_for sessions active.now user role }
+fn granted(selected: usize, ended: usize) -> Answer
+    ensures { result ≡ Answer.Granted selected ended }
 {
-    let mut i: usize = 0;
-    'sessions: loop {
-        if i == 32 {
-            break 'sessions false;
-        }
-        let session = sessions[i];
-        if (session.user as usize == user) & word32::member(active[i], role) {
-            break 'sessions true;
-        }
-        i += 1;
-    }
+    Answer::Granted { selected, ended }
+}
+
+fn broken(rule: usize, selected: usize) -> Answer
+    ensures { result ≡ Answer.Broken rule selected }
+{
+    Answer::Broken { rule, selected }
 }

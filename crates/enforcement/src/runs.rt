@@ -1,90 +1,71 @@
 // A list of steps handed over whole, with a list for its answers.
 ghost use Rattle.std.specs.Prelude.{◌≡◌};
 ghost use Rattle.steps.specs.Answers.{packed_of, word_of};
-ghost use Rattle.enforcement.specs.Runs.{admission_of, RunGiven, RunPlain};
+ghost use Rattle.enforcement.specs.Runs.{refusal_of, run_number, admitted, RunGiven, RunPlain};
 ghost use Rattle.enforcement.specs.Safety.{RunSafe};
 
-use crate::acceptance::is_accepted;
-use crate::configurations::NextConfiguration;
 use crate::states::State;
 use rules::RuleList;
 use steps::{Answer, Step};
 
-// 40 or 18 where the list is refused as a whole, else 0; and the state after the last step.
+// 40 or 18 where the list is refused as a whole, else 0; and the state after the last step. What a list of steps answers is plain numbers.
 #[derive(Clone, Copy)]
 pub struct Ran {
     pub number: u64,
     pub state: State,
 }
 
-// How many of the steps run.
-#[derive(Clone, Copy)]
-pub struct Admission {
-    pub number: u64,
-    pub count: usize,
+// Why a list of steps is refused as a whole.
+#[derive(Clone, Copy, Debug, PartialEq, Eq)]
+pub enum RunRefusal {
+    NotAccepted,
+    NoRoom,
+}
+
+impl RunRefusal {
+    fn number(self) -> u64
+        ensures { result ≡ run_number self }
+    {
+        match self {
+            RunRefusal::NotAccepted => 40,
+            RunRefusal::NoRoom => 18,
+        }
+    }
 }
 
 // The steps run in their order, each from the state that the last one handed back. The answer to step i goes to entry i as one number;
 // entries beyond the steps stay. 40, then 18, refuse the list as a whole: then the state and every entry stay. Where all six kinds have rights
 // and a user holds none of them, his own steps change nobody's roles and no role's permissions.
-pub fn run(list: RuleList, state: State, steps: &[Step], answers: &mut [u64]) -> Ran
+pub fn run(list: RuleList, mut state: State, steps: &[Step], answers: &mut [u64]) -> Ran
     ensures given { RunGiven list state steps.now answers.old result answers.new }
     ensures plain { RunPlain list state steps.now answers.old result answers.new }
     ensures safe { RunSafe list state steps.now result }
 {
-    let admitted = admit(list, state, steps.len(), answers.len());
-    let count = admitted.count;
-    // The history stays in one place, and the rest of the state where the last step handed it back: else each would be copied at every
-    // step. The answer that stands here before the first step is never read.
-    let mut history = state.history;
-    let mut last = NextConfiguration {
-        configuration: state.configuration(),
-        answer: Answer::Granted {
-            selected: 0,
-            ended: 0,
-        },
-    };
-    let mut i = 0;
-    while i < count {
-        last = last.configuration.decided(list, steps[i], &mut history);
-        answers[i] = word(last.answer);
-        i += 1;
+    if let Err(refusal) = admit(&list, &state, steps.len(), answers.len()) {
+        return Ran {
+            number: refusal.number(),
+            state,
+        };
     }
-    Ran {
-        number: admitted.number,
-        state: last.configuration.with_history(history),
+    // By index: what is written through a `zip` with `iter_mut` is not known to a proof.
+    for (i, step) in steps.iter().enumerate() {
+        answers[i] = word(state.decide(&list, *step));
     }
+    Ran { number: 0, state }
 }
 
 // 40 where the list or the state is refused, else 18 where there is no room for an answer to each step.
-fn admit(list: RuleList, state: State, steps: usize, room: usize) -> Admission
-    ensures { result ≡ admission_of list state steps room }
+#[tactic(auto, unfolding(crate::specs::Runs::refusal_of))]
+fn admit(list: &RuleList, state: &State, steps: usize, room: usize) -> Result<(), RunRefusal>
+    ensures { admitted result ≡ refusal_of list.now state.now steps room }
 {
-    if !list.is_accepted() {
-        return Admission {
-            number: 40,
-            count: 0,
-        };
-    }
-    let loans = state.loans;
-    let sessions = state.sessions;
-    let time = state.time;
-    if !is_accepted(loans, sessions, &state.active, time) {
-        return Admission {
-            number: 40,
-            count: 0,
-        };
+    if !state.is_accepted_under(list) {
+        return Err(RunRefusal::NotAccepted);
     }
     if room < steps {
-        return Admission {
-            number: 18,
-            count: 0,
-        };
+        return Err(RunRefusal::NoRoom);
     }
-    Admission {
-        number: 0,
-        count: steps,
-    }
+    Ok(())
 }
 
 // The answer as one number; `Answer::of_word` takes it apart. Every answer of the gate fits.

@@ -1,17 +1,15 @@
 // The state: who is assigned what, which role carries which permission, the loans, the sessions, and who did what on which object.
 ghost use Rattle.std.specs.Prelude.{◌≡◌, true};
 ghost use Rattle.rules.specs.Acceptance.{list_accepted};
+ghost use Rattle.rules.specs.Families.{closed_session};
 ghost use Rattle.enforcement.specs.States.{fresh, state_accepted};
 ghost use Rattle.enforcement.specs.Narrow.{Narrow};
-ghost use Rattle.enforcement.specs.Gate.{refused_next, step_of};
-ghost use Rattle.enforcement.specs.Deciding.{configuration_of};
+ghost use Rattle.enforcement.specs.Gate.{step_of};
 
-use crate::acceptance::is_accepted;
-use crate::configurations::Configuration;
 use loans::Loans;
 use places::Position;
 use rules::{RuleList, Session};
-use steps::{Answer, Step};
+use steps::{Answer, Refusal, Step};
 
 #[derive(Clone, Copy)]
 pub struct State {
@@ -37,6 +35,7 @@ pub struct Next {
 
 impl State {
     // Time 0, all else empty.
+    #[tactic(auto, unfolding(crate::specs::States::fresh))]
     pub fn fresh() -> Self
         ensures { result ≡ fresh }
     {
@@ -45,11 +44,7 @@ impl State {
             assigned: [0; 64],
             granted: [0; 32],
             loans: Loans::none(),
-            sessions: [Session {
-                is_open: false,
-                user: 0,
-                position: Position::Unknown,
-            }; 32],
+            sessions: [closed_session(); 32],
             active: [0; 32],
             history: [0; 1024],
         }
@@ -57,54 +52,32 @@ impl State {
 
     // One step: 40 and 20 first, then its checks and rules. Where 40 refuses neither list nor state, it is what document 01 says with the
     // selected rules alone.
-    pub fn step(self, list: RuleList, step: Step) -> Next
+    pub fn step(mut self, list: RuleList, step: Step) -> Next
         ensures given { result ≡ step_of list self step }
         ensures narrow { list_accepted list ≡ true → state_accepted self ≡ true → Narrow list self step result }
     {
-        if !list.is_accepted() {
-            return self.refused(40);
+        if !self.is_accepted_under(&list) {
+            return Next {
+                state: self,
+                answer: Answer::Refused {
+                    number: Refusal::NotAccepted.number(),
+                },
+            };
         }
-        let loans = self.loans;
-        let sessions = self.sessions;
-        let time = self.time;
-        if !is_accepted(loans, sessions, &self.active, time) {
-            return self.refused(40);
-        }
-        let mut history = self.history;
-        let next = self.configuration().decided(list, step, &mut history);
-        let after = next.configuration;
-        let answer = next.answer;
+        let answer = self.decide(&list, step);
         Next {
-            state: after.with_history(history),
+            state: self,
             answer,
         }
     }
+}
 
-    // The state but for its history.
-    pub(crate) fn configuration(self) -> Configuration
-        ensures { result ≡ configuration_of self }
-    {
-        let assigned = self.assigned;
-        let granted = self.granted;
-        let loans = self.loans;
-        let sessions = self.sessions;
-        let active = self.active;
-        Configuration {
-            time: self.time,
-            assigned,
-            granted,
-            loans,
-            sessions,
-            active,
-        }
-    }
-
-    fn refused(self, number: usize) -> Next
-        ensures { result ≡ refused_next self (Answer.Refused number) }
-    {
-        Next {
-            state: self,
-            answer: Answer::Refused { number },
-        }
+pub(crate) fn closed_session() -> Session
+    ensures { result ≡ closed_session }
+{
+    Session {
+        is_open: false,
+        user: 0,
+        position: Position::Unknown,
     }
 }

@@ -14,7 +14,7 @@ pub(crate) fn step_by(line: &[u8]) -> Step {
 }
 
 // The kind stands after so many spaces.
-fn step_from(line: &[u8], spaces: u64, by: Acting) -> Step
+fn step_from(line: &[u8], spaces: usize, by: Acting) -> Step
     requires { spaces ≤ 3 }
 {
     Step {
@@ -23,52 +23,27 @@ fn step_from(line: &[u8], spaces: u64, by: Acting) -> Step
         second: number_after(spaces + 2, line),
         third: number_after(spaces + 3, line),
         fourth: number_after(spaces + 6, line),
-        x: signed(number_after(spaces + 4, line)),
-        y: signed(number_after(spaces + 5, line)),
+        x: number_after(spaces + 4, line).cast_signed(),
+        y: number_after(spaces + 5, line).cast_signed(),
         by,
     }
 }
 
 // The number after so many spaces; -n is 2^64 - n.
-pub(crate) fn number_after(spaces: u64, line: &[u8]) -> u64 {
-    let mut value: u64 = 0;
-    let mut minus = false;
-    let mut passed: u64 = 0;
-    for i in 0..line.len() {
-        let byte = line[i];
-        value = with_byte(value, byte, passed == spaces);
-        minus = minus | ((byte == b'-') & (passed == spaces));
-        passed = passed.wrapping_add(counted(byte == b' '));
+pub(crate) fn number_after(spaces: usize, line: &[u8]) -> u64 {
+    let Some(word) = line.split(|byte| *byte == b' ').nth(spaces) else {
+        return 0;
+    };
+    let amount = word
+        .iter()
+        .filter_map(|byte| char::from(*byte).to_digit(10))
+        .fold(0, with_digit);
+    if word.contains(&b'-') {
+        return amount.wrapping_neg();
     }
-    if minus {
-        return value.wrapping_neg();
-    }
-    value
+    amount
 }
 
-// One digit more, where the byte is one and is to be read.
-fn with_byte(value: u64, byte: u8, is_read: bool) -> u64 {
-    if byte < b'0' {
-        return value;
-    }
-    if !is_read | (b'9' < byte) {
-        return value;
-    }
-    let digit = byte - b'0';
-    (value % 1_844_674_407_370_955_162 * 10).wrapping_add(digit as u64)
-}
-
-fn counted(is_so: bool) -> u64 {
-    if is_so {
-        return 1;
-    }
-    0
-}
-
-// The number that a word stands for; -1 - n is !n.
-fn signed(word: u64) -> i64 {
-    if word < 9_223_372_036_854_775_808 {
-        return word as i64;
-    }
-    !((18_446_744_073_709_551_615 - word) as i64)
+fn with_digit(amount: u64, digit: u32) -> u64 {
+    (amount % 1_844_674_407_370_955_162 * 10).wrapping_add(u64::from(digit))
 }

@@ -11,7 +11,9 @@ use lib.Dec.{leb, ltb, eqb}
 use borrow.Author.Tests.{leb-true, leb-false}
 use Rattle.sets.proofs.Booleans.{both}
 use Rattle.forms.specs.Forms.{head, fill, Match, unmatched, matched, scan, scanned, values_fit, values_in}
-use Rattle.forms.specs.Tables.{lines_in, form_at, on_first, found_as, find_in, found, found_first, slot_count, parted, apart, apart_from_all, distinct}
+use Rattle.std.specs.Prelude.{Some, None}
+use Rattle.forms.proofs.Turns.{form-found, form-missed}
+use Rattle.forms.specs.Tables.{found_form, lines_in, form_at, on_first, found_as, find_in, found, found_first, slot_count, parted, apart, apart_from_all, distinct}
 use Rattle.forms.specs.declared.tables.Found.{Found}
 use Rattle.forms.proofs.Matching.{Sound, sound, Within, within, complete, disjoint, item-pos}
 
@@ -187,3 +189,40 @@ tried-first table k s c = by_place (leb (length (lines_in table)) k) refl
     by_place : (b : Bool) → leb (length (lines_in table)) k ≡ b → found_first (form_at table k) k table s ≡ found table s
     by_place true e = rw (get_or-eq_default (lines_in table) [] {n = k} (leb-true _ _ e))
     by_place false e = by-match (scan (form_at table k) s) refl (sound (form_at table k) s) (leb-false _ _ e) (ltb 0 (length (form_at table k)))
+
+-- ---- what is answered
+
+empty-found : (ts : List (List ℕ)) (i : ℕ) (s : List ℕ) → (find_in ts i s).form ≡ i + length ts → (find_in ts i s).length ≡ 0
+unfolding find_in
+empty-found [] i s e = refl
+empty-found (t ∷ ts) i s e = go (scanned (scan t s)).matches (empty-found ts (suc i) s) e
+  where
+    go : (b : Bool) → ((find_in ts (suc i) s).form ≡ suc i + length ts → (find_in ts (suc i) s).length ≡ 0) → (cond b (found_as i (scanned (scan t s))) (find_in ts (suc i) s)).form ≡ i + suc (length ts)
+        → (cond b (found_as i (scanned (scan t s))) (find_in ts (suc i) s)).length ≡ 0
+    go true more q = absurd (omega arith)
+    go false more q = more (omega arith)
+
+module _ (table s : List ℕ) (c : distinct (lines_in table) ≡ true) where
+  -- a form of the table
+  pub answered-some : {f : Found} → Some f ≡ found_form (found table s) → (f ≡ found table s) × (f.form < length (lines_in table))
+  unfolding found
+  answered-some {f} some =
+      let there = form-found some in
+      let hits = found-hits table s c in
+      (there.1, below f.form (ap (λ (x : Found). x.form) there.1) (empty-there there.0 there.1) hits.most)
+    where
+      empty-there : 0 < f.length → f ≡ find_in (lines_in table) 0 s → f.form ≡ length (lines_in table) → ⊥
+      empty-there some-bytes same none =
+          let empty = empty-found (lines_in table) 0 s (ap (λ (x : Found). x.form) (sym same) ∙ none ∙ sym (zero-add (length (lines_in table)))) in
+          omega (arith, some-bytes, ap (λ (x : Found). x.length) same, empty)
+
+      below : (form : ℕ) {found-form : ℕ} → form ≡ found-form → (form ≡ length (lines_in table) → ⊥) → found-form ≤ length (lines_in table) → form < length (lines_in table)
+      below form same other most = omega (arith, same, other, most)
+
+  -- none of them
+  pub answered-none : None ≡ found_form (found table s) → (found table s).form ≡ length (lines_in table)
+  answered-none none =
+      let hits = found-hits table s c in
+      let empty = form-missed (found table s) none in
+      let past : (found table s).form < length (lines_in table) → ⊥ = λ below. omega (arith, empty, hits.some below) in
+      omega (arith, past, hits.most)

@@ -3,7 +3,7 @@
 use mathlib.Core.Path.{◌≡◌, refl, sym, ap, ◌∙◌}
 use mathlib.Core.Bool.{Bool, true, false, cond, ◌&&◌}
 use mathlib.Core.List.{List, [], ◌∷◌, ◌++◌, append_assoc}
-use Prim.Native.Nat.{ℕ, zero, suc, ◌+◌, ◌-◌, ◌≤◌}
+use Prim.Native.Nat.{ℕ, zero, suc, ◌+◌, ◌-◌, ◌≤◌, ◌<◌}
 use native.Mathlib.Numerals.{add-one}
 use native.Mathlib.Omega.{arith}
 use lib.ListN.{length, take, drop, get_or, length-append, get_or-eq_default}
@@ -11,11 +11,12 @@ use lib.Seq.{take-append_seam, drop-append_seam}
 use lib.Dec.{eqb, leb}
 use borrow.Author.Tests.{le-leb, leb-true, lt-ltb}
 use Rattle.sets.proofs.Booleans.{both}
-use Rattle.forms.specs.Forms.{scan, scanned}
-use Rattle.forms.specs.Tables.{joined, on_first, lines_in, form_at, starts_from, starts_of, part_of, line_at, found_as, found, found_first, found_likely, distinct}
-use Rattle.forms.specs.declared.scanning.Scanned.{Scanned}
+use Rattle.forms.specs.Forms.{ScannedForm, scan, scanned}
+use Rattle.std.specs.Prelude.{Some, None}
+use Rattle.forms.proofs.Turns.{form-some, scan-some}
+use Rattle.forms.specs.Tables.{found_form, joined, on_first, lines_in, form_at, starts_from, starts_of, part_of, line_at, found_as, found, found_first, found_likely, distinct}
 use Rattle.forms.specs.declared.tables.Found.{Found}
-use Rattle.forms.proofs.Finding.{tried-first}
+use Rattle.forms.proofs.Finding.{tried-first, answered-some, answered-none}
 
 -- ---- a line as the code cuts it out
 
@@ -81,7 +82,7 @@ module _ {t u : List ℕ} (e : u ≡ t) (i : ℕ) (table s : List ℕ) where
   unfolding found_first
   first-empty h f = rw (← e, h) f
 
-  module _ (h : length u ≡ 0 → ⊥) (r : Scanned) (q : r ≡ scanned (scan u s)) where
+  module _ (h : length u ≡ 0 → ⊥) (r : ScannedForm) (q : r ≡ scanned (scan u s)) where
     pub first-missed : {f : Found} → r.matches ≡ false → f ≡ found table s → f ≡ found_first t i table s
     unfolding found_first
     first-missed m f = rw (← e, lt-ltb 0 (length u) (omega arith), ← q, m) f
@@ -90,7 +91,21 @@ module _ {t u : List ℕ} (e : u ≡ t) (i : ℕ) (table s : List ℕ) where
     unfolding found_first
     first-hit m = rw (← e, lt-ltb 0 (length u) (omega arith), ← q, m)
 
+    pub first-found : r.matches ≡ true → {f : Found} → f ≡ found_as i r → Some f ≡ found_form (found_first t i table s)
+    first-found m {f} g = form-some (g ∙ first-hit m) (rw (g, q) (scan-some u s (omega arith) (rw q at m)))
+
 -- a wrong guess costs time and nothing else
 pub likely-found : (table starts : List ℕ) → distinct (lines_in table) ≡ true → starts ≡ starts_of table → (likely : ℕ) (s : List ℕ)
     → found_likely table starts likely s ≡ found table s
 likely-found table starts c e likely s = rw (index-line table starts e likely) (tried-first table likely s c)
+
+-- what is answered with a likely form
+module _ (table starts : List ℕ) (c : distinct (lines_in table) ≡ true) (e : starts ≡ starts_of table) (likely : ℕ) (s : List ℕ) where
+  answered : found_form (found_likely table starts likely s) ≡ found_form (found table s)
+  answered = ap found_form (likely-found table starts c e likely s)
+
+  pub likely-some : {f : Found} → Some f ≡ found_form (found_likely table starts likely s) → (f ≡ found table s) × (f.form < length (lines_in table))
+  likely-some some = answered-some table s c (some ∙ answered)
+
+  pub likely-none : None ≡ found_form (found_likely table starts likely s) → (found table s).form ≡ length (lines_in table)
+  likely-none none = answered-none table s c (none ∙ answered)

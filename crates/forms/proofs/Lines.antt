@@ -10,10 +10,11 @@ use lib.ListN.{length, take, drop, get_or, length-drop, drop_of_length-le}
 use lib.Seq.{drop-cons, length-take-le}
 use lib.Dec.{eqb}
 use borrow.Author.Tests.{eq-eqb, ne_eqb}
-use Rattle.forms.specs.Forms.{scan, scanned}
-use Rattle.forms.specs.Tables.{lines_in, on_first, line_end, find_in, found, found_as, no_form}
-use Rattle.forms.specs.declared.scanning.Scanned.{Scanned}
-use Rattle.forms.proofs.Turns.{rest}
+use Rattle.forms.specs.Forms.{ScannedForm, scan, scanned}
+use Rattle.forms.specs.Tables.{lines_in, on_first, line_end, find_in, found, found_as, no_form, found_form}
+use Rattle.std.specs.Prelude.{Some}
+use Rattle.forms.specs.declared.tables.Found.{Found}
+use Rattle.forms.proofs.Turns.{rest, form-some, scan-some}
 
 -- ---- where the first line ends
 
@@ -77,13 +78,18 @@ unfolding found
 search-start table text = record { few = omega arith; same = refl }
 
 module _ {table text remaining : List ℕ} {form : ℕ} (v : Search table text remaining form) (h : 0 < length remaining)
-    {n : ℕ} (p : n ≡ line_end remaining) (r : Scanned) (e : r ≡ scanned (scan (take n remaining) text)) where
+    {n : ℕ} (p : n ≡ line_end remaining) (r : ScannedForm) (e : r ≡ scanned (scan (take n remaining) text)) where
   step : found table text ≡ cond r.matches (found_as form r) (find_in (lines_in (drop n remaining)) (suc form) text)
   unfolding find_in
   step = v.same ∙ rw (first-line remaining h, ← p, e)
 
   pub search-hit : r.matches ≡ true → found_as form r ≡ found table text
   search-hit t = sym (step ∙ rw t)
+
+  pub search-found : r.matches ≡ true → {f : Found} → f ≡ found_as form r → Some f ≡ found_form (found table text)
+  search-found t {f} q =
+      let line : 0 < length (take n remaining) = omega (arith, cut-length remaining p, p, end-pos remaining h) in
+      form-some (q ∙ search-hit t) (rw (q, e) (scan-some (take n remaining) text line (rw e at t)))
 
   pub search-less : length (take (length remaining - n) (drop n remaining)) < length remaining
   search-less = rw (rest remaining n) (omega (arith, length-drop n remaining, end-pos remaining h, end-most remaining))

@@ -165,6 +165,9 @@ number-mark c byte slot plus underline point left right accent =
     (rw (slot, ne_eqb c 43 plus, ne_eqb c 95 underline, ne_eqb c 46 point, ne_eqb c 91 left, ne_eqb c 93 right, ne_eqb c 96 accent)
     at (tested (λ c. (not (is_slot c) || is_other c) || is_number (syntax_of c)) 256 c every-number byte))
 
+-- for the check itself, which then needs no name of the last arm
+pub ruleset number_marks = (number-mark)
+
 -- a byte that is no mark has no range
 literal-range : (x : Syntax) (low high v : ℕ) → is_slot_syntax x ≡ false → in_range_by x low high v ≡ true
 unfolding in_range_by

@@ -14,7 +14,7 @@ use Rattle.forms.specs.Numbers.{digits_of, signed_of}
 use Rattle.forms.specs.Kinds.{syntax_of, is_slot}
 use Rattle.forms.specs.Forms.{text_by, item_text, fits_by, head, left, fill, values_fit}
 use Rattle.forms.specs.Writing.{last_place, capped, Wrote, written_of, lent_after}
-use Rattle.forms.specs.declared.writing.Written.TheVariants.{Length, Refused}
+use Rattle.std.specs.Prelude.{Ok, Err}
 use Rattle.forms.specs.declared.kinds.Syntax.{Syntax}
 use Rattle.forms.specs.declared.kinds.Syntax.TheVariants as syntax
 use Rattle.forms.proofs.Digits.{digits-small, digits_step}
@@ -129,7 +129,7 @@ whole [] l h = refl
 whole (a ∷ m) l h = absurd (omega arith)
 
 pub measured : {k x : List ℕ} {r : ℕ} {k' : List ℕ} (m l : List ℕ) → length x ≤ last_place → length m ≡ 0 → Wrote k 0 x r k' → length (m ++ drop 0 l) < r
-    → (Refused 18 ≡ written_of x l) × (m ++ drop 0 l ≡ lent_after x l)
+    → (Err 18 ≡ written_of x l) × (m ++ drop 0 l ≡ lent_after x l)
 unfolding written_of lent_after
 measured {k} {x} {r} {k'} m l f e w h =
     let q = whole m l e in
@@ -137,7 +137,7 @@ measured {k} {x} {r} {k'} m l f e w h =
     (rw (lt-leb (length x) (length l) n), q ∙ rw (lt-leb (length x) (length l) n))
 
 pub placed : {k x : List ℕ} {q : ℕ} {k' : List ℕ} (m l : List ℕ) → length x ≤ last_place → length m ≡ 0 → Wrote k 0 x q k' → q ≤ length (m ++ drop 0 l)
-    → {r : ℕ} {l' : List ℕ} → Wrote (m ++ drop 0 l) 0 x r l' → (Length r ≡ written_of x l) × (l' ≡ lent_after x l)
+    → {r : ℕ} {l' : List ℕ} → Wrote (m ++ drop 0 l) 0 x r l' → (Ok r ≡ written_of x l) × (l' ≡ lent_after x l)
 unfolding written_of lent_after
 placed {k} {x} {q} {k'} m l f e w h {r} {l'} v =
     let b = whole m l e in

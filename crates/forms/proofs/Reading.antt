@@ -41,7 +41,7 @@ number_short (c ∷ s) = go (eqb c 48) (is_digit c) (from-short s (c - 48))
     go false false h = omega arith
 
 -- where no number stands the value is 0
-number-none : (s : List ℕ) → (read_number s).length ≡ 0 → (read_number s).value ≡ 0
+pub number-none : (s : List ℕ) → (read_number s).length ≡ 0 → (read_number s).value ≡ 0
 unfolding read_number
 number-none [] h = refl
 number-none (c ∷ s) h = go (eqb c 48) (is_digit c) h

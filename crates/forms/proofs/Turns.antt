@@ -1,21 +1,25 @@
 -- What a turn of each loop keeps. Assumes nothing.
 use mathlib.Core.Path.{◌≡◌, refl, sym, ap, ◌∙◌, subst}
-use mathlib.Core.Bool.{Bool, true, false, cond, ◌&&◌}
+use mathlib.Core.Bool.{Bool, true, false, false≢true, cond, ◌&&◌}
 use mathlib.Core.List.{List, [], ◌∷◌, ◌++◌}
 use Prim.Native.Nat.{ℕ, zero, suc, ◌+◌, ◌-◌, ◌*◌, ◌^◌, ◌≤◌, ◌<◌}
 use native.Mathlib.Numerals.{add-one}
-use native.Mathlib.Nat.{add-zero, add_assoc, pow-suc}
+use native.Mathlib.Nat.{add-zero, zero-add, add_assoc, pow-suc}
 use native.Mathlib.Omega.{arith}
 use lib.ListN.{length, take, drop, get_or, set, replicate, length-set, length-drop, drop_of_length-le}
 use lib.Seq.{drop-cons, drop-drop, take_all}
 use lib.Dec.{ltb, eqb}
-use borrow.Author.Tests.{lt-ltb, le-ltb, eq-eqb, ne_eqb}
-use Rattle.forms.specs.Numbers.{read_number, read_positive, read_signed, read_fixed, read_byte, negated, digits_from, starts_with_digits, value_from, value_and_length, nothing, longer, is_digit}
+use borrow.Author.Tests.{ltb-true, ltb-false, lt-ltb, eq-eqb, ne_eqb, eqb-true, eqb-false}
+use Rattle.std.specs.Prelude.{Option, Some, None, slice_get}
+use Rattle.std.specs.Bool.{then_some}
+use Rattle.forms.specs.Numbers.{found_number, read_number, read_positive, read_signed, read_fixed, read_byte, negated, digits_from, starts_with_digits, value_from, value_and_length, nothing, longer, is_digit}
 use Rattle.forms.specs.Kinds.{is_slot, in_range}
-use Rattle.forms.specs.Forms.{item_text, read_item, head, tail, left, fill, all_in_range, Match, unmatched, matched, prepend, scan, scanned, into, scanned_as, not_found, taken_by, advance}
+use Rattle.forms.specs.Forms.{ScannedForm, item_text, read_item, head, tail, left, fill, all_in_range, Match, unmatched, matched, prepend, scan, scanned, into, scanned_as, not_found, taken_by, advance}
+use Rattle.forms.specs.Tables.{found_form}
+use Rattle.forms.specs.declared.tables.Found.{Found}
 use Rattle.forms.specs.Writing.{last_place, Wrote}
 use Rattle.forms.specs.declared.numbers.Number.{Number}
-use Rattle.forms.specs.declared.scanning.Scanned.{Scanned}
+use Rattle.forms.proofs.Reading.{number-none, number_small, number_short}
 use Rattle.forms.proofs.Marks.{unmarked-range}
 use Rattle.forms.proofs.Matching.{item-short, literal-text, unmarked-read}
 use Rattle.forms.proofs.Digits.{digit-true}
@@ -25,22 +29,71 @@ use Rattle.forms.proofs.Puts.{then, like, nothing_written, next-most}
 pub rest : {A : Type 0} (s : List A) (n : ℕ) → take (length s - n) (drop n s) ≡ drop n s
 rest s n = take_all (length s - n) (drop n s) (rw length-drop (omega arith))
 
+-- what an answer tells of the test that it stands for
+pub taken : {A : Type 0} {b : Bool} {x y : A} → Some y ≡ cond b (Some x) None → (b ≡ true) × (y ≡ x)
+taken {b = true} e = (refl, cc)
+taken {b = false} e = cc
+
+pub left_out : {A : Type 0} {b : Bool} (x : A) → None ≡ cond b (Some x) None → b ≡ false
+left_out {b = true} x e = cc
+left_out {b = false} x e = refl
+
+pub found-some : {n r : Number} → n ≡ r → 0 < n.length → Some n ≡ found_number r
+found-some {n} {r} e some = rw (lt-ltb 0 r.length (rw e at some)) (ap Some e)
+
+pub found-none : {r : Number} → r ≡ nothing → None ≡ found_number r
+found-none e = rw e
+
+pub number-found : {n r : Number} → Some n ≡ found_number r → (0 < n.length) × (n ≡ r)
+number-found {n} {r} e = let there = taken e in (rw there.1 (ltb-true 0 r.length there.0), there.1)
+
+pub number-missed : (r : Number) → None ≡ found_number r → r.length ≡ 0
+number-missed r e = omega (arith, ltb-false 0 r.length (left_out r e))
+
+pub form-some : {f g : Found} → f ≡ g → 0 < f.length → Some f ≡ found_form g
+form-some {f} {g} e some = rw (lt-ltb 0 g.length (rw e at some)) (ap Some e)
+
+pub form-found : {f g : Found} → Some f ≡ found_form g → (0 < f.length) × (f ≡ g)
+form-found {f} {g} e = let there = taken e in (rw there.1 (ltb-true 0 g.length there.0), there.1)
+
+pub form-missed : (g : Found) → None ≡ found_form g → g.length ≡ 0
+form-missed g e = omega (arith, ltb-false 0 g.length (left_out g e))
+
+-- what `is_empty` tells of a length
+pub some_left : {b : Bool} {n : ℕ} → b ≡ eqb n 0 → b ≡ false → 0 < n
+some_left {n = n} told some = omega (arith, eqb-false n 0 (sym told ∙ some))
+
+pub none_left : {b : Bool} {n : ℕ} → b ≡ eqb n 0 → b ≡ true → n ≤ 0
+none_left {n = n} told none = omega (arith, eqb-true n 0 (sym told ∙ none))
+
 -- ---- the digits of a plain number
 
-pub ended : (s : List ℕ) (i a : ℕ) → length s ≤ i → longer i (digits_from (drop i s) a) ≡ value_and_length a i
-unfolding digits_from
-ended s i a h = rw (drop_of_length-le s {i = i} h, add-zero)
+-- after the first byte, the digits that are left continue the number
+pub record Digits (text rest : List ℕ) (value i : ℕ) : Type 0 where
+  pub same : read_number text ≡ longer (1 + i) (digits_from (drop i rest) value)
 
-pub stopped : (s : List ℕ) (i a : ℕ) → i < length s → (ltb a 1000000000 && is_digit (get_or s i 0)) ≡ false → longer i (digits_from (drop i s) a) ≡ value_and_length a i
-unfolding digits_from
-stopped s i a h m = rw (drop-cons s i 0 h, m, add-zero)
+abbrev pub continued : ℕ → ℕ → Option ℕ
+continued value byte = cond (ltb value 1000000000 && is_digit byte) (Some (value * 10 + (byte - 48))) None
 
-pub turned : (s : List ℕ) (i a : ℕ) → i < length s → (ltb a 1000000000 && is_digit (get_or s i 0)) ≡ true
-    → longer i (digits_from (drop i s) a) ≡ longer (i + 1) (digits_from (drop (i + 1) s) (a * 10 + (get_or s i 0 - 48)))
-unfolding digits_from
-turned s i a h m =
-    rw (add-one, drop-cons s i 0 h, m)
-    (ap (value_and_length (digits_from (drop (suc i) s) (a * 10 + (get_or s i 0 - 48))).value) (omega arith))
+module _ {text rest : List ℕ} {value i : ℕ} (digits : Digits text rest value i) where
+  pub digits-end : length rest ≤ i → {size : ℕ} → size ≡ 1 + i → Some (value_and_length value size) ≡ found_number (read_number text)
+  unfolding digits_from
+  digits-end h e = rw e (found-some (sym (digits.same ∙ rw (drop_of_length-le rest {i = i} h, add-zero))) (omega arith))
+
+  module _ (h : i < length rest) where
+    pub digits-stop : None ≡ continued value (get_or rest i 0) → Some (value_and_length value (1 + i)) ≡ found_number (read_number text)
+    unfolding digits_from
+    digits-stop none = found-some (sym (digits.same ∙ rw (drop-cons rest i 0 h, left_out _ none, add-zero))) (omega arith)
+
+    pub digits-turn : {more : ℕ} → Some more ≡ continued value (get_or rest i 0) → Digits text rest more (i + 1)
+    unfolding digits_from
+    digits-turn {more} some =
+        let there = taken some in
+        record {
+          same = digits.same
+              ∙ rw (there.1, drop-cons rest i 0 h, there.0, add-one)
+              (ap (value_and_length (digits_from (drop (suc i) rest) (value * 10 + (get_or rest i 0 - 48))).value) (omega arith));
+        }
 
 pub first-none : (s : List ℕ) → length s ≡ 0 → read_number s ≡ nothing
 unfolding read_number
@@ -63,35 +116,70 @@ unfolding read_number
 first-digit [] h n e = absurd (omega arith)
 first-digit (c ∷ s) h n e = rw (ne_eqb c 48 n, e)
 
+pub zero-found : (s : List ℕ) → 0 < length s → get_or s 0 0 ≡ 48 → Some (value_and_length 0 1) ≡ found_number (read_number s)
+zero-found s h e = found-some (sym (first-zero s h e)) (omega arith)
+
+pub digits-none : (s : List ℕ) → 0 < length s → (get_or s 0 0 ≡ 48 → ⊥) → None ≡ continued 0 (get_or s 0 0) → None ≡ found_number (read_number s)
+digits-none s h n none = found-none (first-other s h n (left_out _ none))
+
+pub digits-start : (s : List ℕ) → 0 < length s → (get_or s 0 0 ≡ 48 → ⊥) → {value : ℕ} → Some value ≡ continued 0 (get_or s 0 0)
+    → Digits s (take (length s - 1) (drop 1 s)) value 0
+digits-start s h n {value} some =
+    let there = taken some in
+    record { same = rw (rest s 1, there.1, zero-add) (first-digit s h n there.0) }
+
+pub tail-length : {A : Type 0} (s : List A) → length (take (length s - 1) (drop 1 s)) ≡ length s - 1
+tail-length s = ap length (rest s 1) ∙ length-drop 1 s
+
 -- for the check itself, which then needs no name of a step with the digit in it
-pub ruleset zeros = (first-zero)
+pub ruleset zeros = (zero-found)
 
 -- ---- a number other than 0
 
-pub positive-some : {r : Number} (s : List ℕ) → r ≡ read_number s → 0 < r.value → r ≡ read_positive s
+pub positive-none : (s : List ℕ) → None ≡ found_number (read_number s) → None ≡ found_number (read_positive s)
 unfolding read_positive
-positive-some s e h = e ∙ rw (lt-ltb 0 (read_number s).value (rw e at h))
+positive-none s none = go (ltb 0 (read_number s).value)
+  where
+    go : (b : Bool) → None ≡ found_number (cond b (read_number s) nothing)
+    go true = none
+    go false = refl
 
-pub positive-none : {r : Number} (s : List ℕ) → r ≡ read_number s → r.value ≤ 0 → read_positive s ≡ nothing
+pub positive-some : (s : List ℕ) {n : Number} → Some n ≡ found_number (read_number s) → then_some (ltb 0 n.value) n ≡ found_number (read_positive s)
 unfolding read_positive
-positive-none s e h = rw (le-ltb 0 (read_number s).value (rw e at h))
+positive-some s {n} some = let there = number-found some in rw (← there.1) (go (ltb 0 n.value) there.0)
+  where
+    go : (b : Bool) → 0 < n.length → then_some b n ≡ found_number (cond b n nothing)
+    go true long = found-some refl long
+    go false long = refl
+
+-- and it is the number itself
+pub positive-is : (s : List ℕ) {n : Number} → Some n ≡ found_number (read_positive s) → (n ≡ read_number s) × (0 < n.value)
+unfolding read_positive
+positive-is s {n} some = let there = number-found some in go (ltb 0 (read_number s).value) refl there.0 there.1
+  where
+    go : (b : Bool) → ltb 0 (read_number s).value ≡ b → 0 < n.length → n ≡ cond b (read_number s) nothing → (n ≡ read_number s) × (0 < n.value)
+    go true positive long e = (e, rw e (ltb-true 0 (read_number s).value positive))
+    go false positive long e = absurd (omega (arith, long, ap (λ (r : Number). r.length) e))
+
+pub positive-missed : (s : List ℕ) → None ≡ found_number (read_positive s) → (read_number s).value ≡ 0
+unfolding read_positive
+positive-missed s none = go (ltb 0 (read_number s).value) refl none
+  where
+    go : (b : Bool) → ltb 0 (read_number s).value ≡ b → None ≡ found_number (cond b (read_number s) nothing) → (read_number s).value ≡ 0
+    go true positive missed = number-none s (number-missed (read_number s) missed)
+    go false positive missed = omega (arith, ltb-false 0 (read_number s).value positive)
 
 -- ---- one byte
 
-pub byte-none : (c : ℕ) (s : List ℕ) → length s ≡ 0 → read_byte c s ≡ nothing
+pub byte-same : (c : ℕ) (s : List ℕ) → slice_get s 0 ≡ Some c → Some (value_and_length 0 1) ≡ found_number (read_byte c s)
 unfolding read_byte
-byte-none c [] h = refl
-byte-none c (d ∷ s) h = absurd (omega arith)
+byte-same c [] e = cc
+byte-same c (d ∷ s) e = let same : d ≡ c = cc in rw (eq-eqb d c same)
 
-pub byte-same : (c : ℕ) (s : List ℕ) → 0 < length s → get_or s 0 0 ≡ c → read_byte c s ≡ value_and_length 0 1
+pub byte-other : (c : ℕ) (s : List ℕ) → (slice_get s 0 ≡ Some c → ⊥) → None ≡ found_number (read_byte c s)
 unfolding read_byte
-byte-same c [] h e = absurd (omega arith)
-byte-same c (d ∷ s) h e = rw (eq-eqb d c e)
-
-pub byte-other : (c : ℕ) (s : List ℕ) → 0 < length s → (get_or s 0 0 ≡ c → ⊥) → read_byte c s ≡ nothing
-unfolding read_byte
-byte-other c [] h e = absurd (omega arith)
-byte-other c (d ∷ s) h e = rw (ne_eqb d c e)
+byte-other c [] n = refl
+byte-other c (d ∷ s) n = rw (ne_eqb d c (λ e. n (ap Some e)))
 
 -- one byte, at a place
 pub byte_at : (s : List ℕ) (i c : ℕ) → i < length s → cond (eqb (get_or s i 0) c) (value_and_length 0 1) nothing ≡ read_byte c (drop i s)
@@ -101,6 +189,8 @@ byte_at s i c h = rw (drop-cons s i 0 h)
 pub byte_past : (s : List ℕ) (i c : ℕ) → length s ≤ i → nothing ≡ read_byte c (drop i s)
 unfolding read_byte
 byte_past s i c h = rw (drop_of_length-le s {i = i} h)
+
+pub ruleset places = (byte_at, byte_past)
 
 -- ---- a number that may have a minus
 
@@ -114,11 +204,19 @@ unfolding read_signed
 signed-minus [] h e = absurd (omega arith)
 signed-minus (c ∷ s) h e = rw (eq-eqb c 45 e)
 
-pub negated-some : (r : Number) → 0 < r.value → negated r ≡ value_and_length (10000000000 + r.value) (1 + r.length)
-negated-some r h = rw (lt-ltb 0 r.value h)
+-- a number after the minus
+pub negated-some : (s : List ℕ) {n : Number} → Some n ≡ found_number (read_positive s)
+    → Some (value_and_length (10000000000 + n.value) (1 + n.length)) ≡ found_number (negated (read_number s))
+negated-some s {n} some =
+    let there = positive-is s some in
+    found-some (rw (← there.0, lt-ltb 0 n.value there.1)) (omega arith)
 
-pub negated-none : (r : Number) → r.value ≤ 0 → negated r ≡ nothing
-negated-none r h = rw (le-ltb 0 r.value h)
+pub negated-none : (s : List ℕ) → None ≡ found_number (read_positive s) → None ≡ found_number (negated (read_number s))
+negated-none s none = rw (positive-missed s none)
+
+-- the amount of a number that was read
+pub amount-fits : (s : List ℕ) {n : Number} → Some n ≡ found_number (read_positive s) → (n.value < 10000000000) × (n.length ≤ length s)
+amount-fits s some = let there = positive-is s some in rw there.0 (number_small s, number_short s)
 
 -- ---- the digits of a number of fixed length
 
@@ -130,49 +228,6 @@ pub record Fixed (n : ℕ) (s : List ℕ) (value i : ℕ) : Type 0 where
 
 pub fixed-start : (n : ℕ) (s : List ℕ) → Fixed n s 0 0
 fixed-start n s = let z : n - 0 ≡ n = omega arith in record { few = omega arith; small = omega arith; digits = rw z; same = rw z }
-
-module _ {n : ℕ} {s : List ℕ} {value i : ℕ} (v : Fixed n s value i) (h : i < n) where
-  left_over : n - i ≡ suc (n - (i + 1))
-  left_over = omega arith
-
-  pub fixed-short : length s ≤ i → read_fixed n s ≡ nothing
-  unfolding read_fixed
-  fixed-short l = rw (v.digits, left_over, drop_of_length-le s {i = i} l) (none (n - (i + 1)))
-    where
-      none : (m : ℕ) → cond (starts_with_digits (suc m) []) (value_and_length (value_from n s 0) n) nothing ≡ nothing
-      none m = unfold starts_with_digits in refl
-
-  pub fixed-other : i < length s → is_digit (get_or s i 0) ≡ false → read_fixed n s ≡ nothing
-  unfolding read_fixed
-  fixed-other l e = rw (v.digits, left_over, drop-cons s i 0 l) (none (n - (i + 1)))
-    where
-      none : (m : ℕ) → cond (starts_with_digits (suc m) (get_or s i 0 ∷ drop (suc i) s)) (value_and_length (value_from n s 0) n) nothing ≡ nothing
-      none m = unfold starts_with_digits in rw e
-
-  pub fixed-turn : i < length s → is_digit (get_or s i 0) ≡ true → Fixed n s (value * 10 + (get_or s i 0 - 48)) (i + 1)
-  fixed-turn l e =
-      let d = digit-true (get_or s i 0) e in
-      record {
-        few = omega arith;
-        small = rw (add-one, pow-suc 10 i) (omega (arith, v.small));
-        digits = v.digits ∙ rw (left_over, drop-cons s i 0 l, add-one) (tested (n - suc i));
-        same = v.same ∙ rw (left_over, drop-cons s i 0 l, add-one) (valued (n - suc i));
-      }
-    where
-      tested : (m : ℕ) → starts_with_digits (suc m) (get_or s i 0 ∷ drop (suc i) s) ≡ starts_with_digits m (drop (suc i) s)
-      tested m = unfold starts_with_digits in rw e
-
-      valued : (m : ℕ) → value_from (suc m) (get_or s i 0 ∷ drop (suc i) s) value ≡ value_from m (drop (suc i) s) (value * 10 + (get_or s i 0 - 48))
-      valued m = unfold value_from in refl
-
-pub fixed-end : {n : ℕ} {s : List ℕ} {value i : ℕ} → Fixed n s value i → n ≤ i → read_fixed n s ≡ value_and_length value n
-unfolding read_fixed
-fixed-end {n} {s} {value} {i} v h =
-    let z : n - i ≡ 0 = omega arith in
-    rw (v.digits, v.same, z) (last (drop i s))
-  where
-    last : (l : List ℕ) → cond (starts_with_digits 0 l) (value_and_length (value_from 0 l value) n) nothing ≡ value_and_length value n
-    last l = unfold starts_with_digits value_from in refl
 
 -- ten to the power of a count of digits stays small
 pub power_small : (i : ℕ) → i ≤ 8 → 10 ^ i ≤ 100000000
@@ -187,9 +242,84 @@ power_small (suc (suc (suc (suc (suc (suc (suc zero))))))) h = omega arith
 power_small (suc (suc (suc (suc (suc (suc (suc (suc zero)))))))) h = omega arith
 power_small (suc (suc (suc (suc (suc (suc (suc (suc (suc i))))))))) h = absurd (omega arith)
 
+module _ {n : ℕ} {s : List ℕ} {value i : ℕ} (v : Fixed n s value i) (short : n ≤ 8) (size : length s ≡ n) (h : i < length s) where
+  left_over : n - i ≡ suc (n - (i + 1))
+  left_over = omega arith
+
+  room : ltb value 1000000000 ≡ true
+  room = lt-ltb value 1000000000 (omega (arith, v.small, power_small i (omega arith)))
+
+  pub fixed-stop : None ≡ continued value (get_or s i 0) → None ≡ found_number (read_fixed n s)
+  unfolding read_fixed
+  fixed-stop none =
+      let other : is_digit (get_or s i 0) ≡ false = rw room at (left_out (value * 10 + (get_or s i 0 - 48)) none) in
+      rw (v.digits, left_over, drop-cons s i 0 h) (tested (n - (i + 1)) other)
+    where
+      tested : (m : ℕ) → is_digit (get_or s i 0) ≡ false
+          → None ≡ found_number (cond (starts_with_digits (suc m) (get_or s i 0 ∷ drop (suc i) s)) (value_and_length (value_from n s 0) n) nothing)
+      tested m other = unfold starts_with_digits in rw other
+
+  pub fixed-turn : {more : ℕ} → Some more ≡ continued value (get_or s i 0) → Fixed n s more (i + 1)
+  fixed-turn {more} some =
+      let there = taken some in
+      let digit : is_digit (get_or s i 0) ≡ true = rw room at there.0 in
+      let d = digit-true (get_or s i 0) digit in
+      record {
+        few = omega arith;
+        small = rw (add-one, pow-suc 10 i, there.1) (omega (arith, v.small));
+        digits = v.digits ∙ rw (left_over, drop-cons s i 0 h, add-one) (tested (n - suc i) digit);
+        same = v.same ∙ rw (left_over, drop-cons s i 0 h, add-one, there.1) (valued (n - suc i));
+      }
+    where
+      tested : (m : ℕ) → is_digit (get_or s i 0) ≡ true → starts_with_digits (suc m) (get_or s i 0 ∷ drop (suc i) s) ≡ starts_with_digits m (drop (suc i) s)
+      tested m digit = unfold starts_with_digits in rw digit
+
+      valued : (m : ℕ) → value_from (suc m) (get_or s i 0 ∷ drop (suc i) s) value ≡ value_from m (drop (suc i) s) (value * 10 + (get_or s i 0 - 48))
+      valued m = unfold value_from in refl
+
+pub fixed-end : {n : ℕ} {s : List ℕ} {value i : ℕ} → Fixed n s value i → 0 < n → n ≤ i → Some (value_and_length value n) ≡ found_number (read_fixed n s)
+unfolding read_fixed
+fixed-end {n} {s} {value} {i} v some h =
+    let z : n - i ≡ 0 = omega arith in
+    found-some (sym (rw (v.digits, v.same, z) (last (drop i s)))) some
+  where
+    last : (l : List ℕ) → cond (starts_with_digits 0 l) (value_and_length (value_from 0 l value) n) nothing ≡ value_and_length value n
+    last l = unfold starts_with_digits value_from in refl
+
+-- a text that is too short has no such number, and of a longer one only the front counts
+digits-short : (n : ℕ) (s : List ℕ) → length s < n → starts_with_digits n s ≡ false
+unfolding starts_with_digits
+digits-short zero s h = absurd (omega arith)
+digits-short (suc n) [] h = refl
+digits-short (suc n) (c ∷ s) h = rw (digits-short n s (omega arith)) (go (is_digit c))
+  where
+    go : (b : Bool) → (b && false) ≡ false
+    go true = refl
+    go false = refl
+
+digits-front : (n : ℕ) (s : List ℕ) → starts_with_digits n (take n s) ≡ starts_with_digits n s
+unfolding starts_with_digits
+digits-front zero s = refl
+digits-front (suc n) [] = refl
+digits-front (suc n) (c ∷ s) = rw (digits-front n s)
+
+value-front : (n : ℕ) (s : List ℕ) (a : ℕ) → value_from n (take n s) a ≡ value_from n s a
+unfolding value_from
+value-front zero s a = refl
+value-front (suc n) [] a = refl
+value-front (suc n) (c ∷ s) a = value-front n s (a * 10 + (c - 48))
+
+pub fixed-none : (n : ℕ) (s : List ℕ) → length s < n → None ≡ found_number (read_fixed n s)
+unfolding read_fixed
+fixed-none n s h = rw (digits-short n s h)
+
+pub fixed-front : (n : ℕ) (s : List ℕ) {front : List ℕ} → front ≡ take (n - 0) (drop 0 s) → read_fixed n front ≡ read_fixed n s
+unfolding read_fixed
+fixed-front n s e = let all : n - 0 ≡ n = omega arith in rw (e, all, digits-front n s, value-front n s 0)
+
 -- ---- one form against a text
 
-pub record Scan (t s : List ℕ) (a : Scanned) (i : ℕ) : Type 0 where
+pub record Scan (t s : List ℕ) (a : ScannedForm) (i : ℕ) : Type 0 where
   pub in_form : i ≤ length t
   pub six : length a.values ≡ 6
   pub few : a.count ≤ i
@@ -210,14 +340,14 @@ scan-at : (t s : List ℕ) (i : ℕ) → i < length t
 unfolding scan
 scan-at t s i h = rw (drop-cons t i 0 h)
 
-taken-into : (a : Scanned) (b : Bool) (r : Number) (m : Match) → into (taken_by a b r) m ≡ into a (prepend b r.value r.length m)
+taken-into : (a : ScannedForm) (b : Bool) (r : Number) (m : Match) → into (taken_by a b r) m ≡ into a (prepend b r.value r.length m)
 taken-into a b r unmatched = refl
 taken-into a true r (matched vs m) =
     let k : a.count + 1 + length vs ≡ a.count + suc (length vs) = omega arith in
     rw (k, add-one, add_assoc)
 taken-into a false r (matched vs m) = rw add_assoc
 
-module _ (t s : List ℕ) (a : Scanned) (i : ℕ) (v : Scan t s a i) (h : i < length t) (r : Number)
+module _ (t s : List ℕ) (a : ScannedForm) (i : ℕ) (v : Scan t s a i) (h : i < length t) (r : Number)
     (e : r ≡ read_item (get_or t i 0) (take (length s - a.length) (drop a.length s))) where
   at : r ≡ read_item (get_or t i 0) (drop a.length s)
   at = e ∙ ap (read_item (get_or t i 0)) (rest s a.length)
@@ -232,9 +362,9 @@ module _ (t s : List ℕ) (a : Scanned) (i : ℕ) (v : Scan t s a i) (h : i < le
       let y : (read_item (get_or t i 0) (drop a.length s)).length ≡ 0 = ap (λ (x : Number). x.length) (sym at) ∙ z in
       sym (v.same ∙ rw (scan-at t (drop a.length s) i h, y))
 
-  pub scan-turn : (b : Bool) (a' : Scanned) → (r.length ≡ 0 → ⊥) → b ≡ is_slot (get_or t i 0) → a' ≡ taken_by a b r → Scan t s a' (i + 1)
+  pub scan-turn : (b : Bool) (a' : ScannedForm) → (r.length ≡ 0 → ⊥) → b ≡ is_slot (get_or t i 0) → a' ≡ taken_by a b r → Scan t s a' (i + 1)
   scan-turn b a' n p q =
-      subst (λ (x : Scanned). Scan t s x (i + 1)) (sym q)
+      subst (λ (x : ScannedForm). Scan t s x (i + 1)) (sym q)
       (record {
         in_form = omega arith;
         six = six-of b;
@@ -278,15 +408,40 @@ module _ (t s values : List ℕ) (count n i : ℕ) (v : Scan t s (scanned_as val
     byte-turn e =
         scan-turn t s (scanned_as values count n) i v h (cond b (value_and_length 0 1) nothing) byte-read false (scanned_as values count (n + 1)) (rw e (λ z. omega arith)) (sym p) (rw e)
 
-  pub slot_turn : (r : Number) → r ≡ read_item (get_or t i 0) (take (length s - n) (drop n s)) → (r.length ≡ 0 → ⊥) → is_slot (get_or t i 0) ≡ true
-      → {values' : List ℕ} → values' ≡ set values count r.value → Scan t s (scanned_as values' (count + 1) (n + r.length)) (i + 1)
-  slot_turn r e z p {values'} q =
-      scan-turn t s (scanned_as values count n) i v h r e true (scanned_as values' (count + 1) (n + r.length)) z (sym p) (rw q)
+  module _ (slot : is_slot (get_or t i 0) ≡ true) where
+    pub number-missing : None ≡ found_number (read_item (get_or t i 0) (take (length s - n) (drop n s))) → not_found ≡ scanned (scan t s)
+    number-missing none =
+        scan-missed t s (scanned_as values count n) i v h (read_item (get_or t i 0) (take (length s - n) (drop n s))) refl
+        (number-missed (read_item (get_or t i 0) (take (length s - n) (drop n s))) none)
 
-pub scan-end : (t s : List ℕ) (a : Scanned) (i : ℕ) → Scan t s a i → length t ≤ i → a ≡ scanned (scan t s)
+    module _ (r : Number) (some : Some r ≡ found_number (read_item (get_or t i 0) (take (length s - n) (drop n s)))) where
+      pub number-fits : n + r.length ≤ length s
+      number-fits = scan-fits t s (scanned_as values count n) i v h r (number-found some).1
+
+      pub number-turn : Scan t s (scanned_as (set values count r.value) (count + 1) (n + r.length)) (i + 1)
+      number-turn =
+          let there = number-found some in
+          scan-turn t s (scanned_as values count n) i v h r there.1 true (scanned_as (set values count r.value) (count + 1) (n + r.length))
+          (λ none. omega (arith, there.0, none)) (sym slot) refl
+
+pub scan-end : (t s : List ℕ) (a : ScannedForm) (i : ℕ) → Scan t s a i → length t ≤ i → a ≡ scanned (scan t s)
 unfolding scan
 scan-end t s a i v h =
     sym (v.same ∙ rw (drop_of_length-le t {i = i} h, add-zero, add-zero) (λ j. record { matches = (sym v.good) j; values = a.values; count = a.count; length = a.length }))
+
+-- a form that stands at the front has some bytes there
+pub scan-some : (t s : List ℕ) → 0 < length t → (scanned (scan t s)).matches ≡ true → 0 < (scanned (scan t s)).length
+unfolding scan scanned
+scan-some [] s h m = absurd (omega arith)
+scan-some (c ∷ t) s h m = go (ltb 0 (read_item c s).length) refl (is_slot c) (scan t (drop (read_item c s).length s)) m
+  where
+    go : (b : Bool) → ltb 0 (read_item c s).length ≡ b → (slot : Bool) (rest : Match)
+        → (into (scanned_as (replicate 6 0) 0 0) (cond b (prepend slot (read_item c s).value (read_item c s).length rest) unmatched)).matches ≡ true
+        → 0 < (into (scanned_as (replicate 6 0) 0 0) (cond b (prepend slot (read_item c s).value (read_item c s).length rest) unmatched)).length
+    go false e slot rest q = absurd (false≢true q)
+    go true e slot unmatched q = absurd (false≢true q)
+    go true e true (matched vs n) q = omega (arith, ltb-true 0 (read_item c s).length e)
+    go true e false (matched vs n) q = omega (arith, ltb-true 0 (read_item c s).length e)
 
 -- ---- the values of a form, one after the other
 

@@ -1,5 +1,5 @@
 -- A form: how it reads with its numbers, and what reading it at the front of a text finds. Assumes nothing.
-use Rattle.std.specs.Prelude.{ℕ, ◌+◌, Bool, true, false, cond, ◌&&◌, not, List, [], ◌∷◌, ◌++◌, length, drop, set, replicate, ltb, eqb}
+use Rattle.std.specs.Prelude.{Option, Some, None, ℕ, ◌+◌, Bool, true, false, cond, ◌&&◌, not, List, [], ◌∷◌, ◌++◌, length, drop, set, replicate, ltb, eqb}
 use Rattle.std.proofs.lemmas.List.Edits.{sets}
 use Rattle.forms.specs.Numbers.{digits_of, signed_of, fixed_of, read_number, read_positive, read_signed, read_fixed, read_byte}
 use Rattle.forms.specs.Kinds.{syntax_of, is_slot, in_range}
@@ -96,10 +96,16 @@ scan (c ∷ t) s =
 
 -- ---- as the code holds it: six values, those that a form does not have being 0
 
-abbrev pub scanned_as : List ℕ → ℕ → ℕ → Scanned
+pub record ScannedForm : Type 0 where
+  pub values : List ℕ
+  pub count : ℕ
+  pub length : ℕ
+  pub matches : Bool
+
+abbrev pub scanned_as : List ℕ → ℕ → ℕ → ScannedForm
 scanned_as values count n = record { matches = true; values = values; count = count; length = n }
 
-abbrev pub not_found : Scanned
+abbrev pub not_found : ScannedForm
 not_found = record { matches = false; values = replicate 6 0; count = 0; length = 0 }
 
 abbrev pub advance : Bool → ℕ → ℕ
@@ -107,13 +113,17 @@ advance true k = k + 1
 advance false k = k
 
 -- one item more
-abbrev pub taken_by : Scanned → Bool → Number → Scanned
+abbrev pub taken_by : ScannedForm → Bool → Number → ScannedForm
 taken_by a is_slot r = scanned_as (cond is_slot (set a.values a.count r.value) a.values) (advance is_slot a.count) (a.length + r.length)
 
 -- a match after what `a` has
-abbrev pub into : Scanned → Match → Scanned
+abbrev pub into : ScannedForm → Match → ScannedForm
 into a unmatched = not_found
 into a (matched vs m) = scanned_as (sets a.values a.count vs) (a.count + length vs) (a.length + m)
 
-unfoldable pub scanned : Match → Scanned
+unfoldable pub scanned : Match → ScannedForm
 scanned m = into (scanned_as (replicate 6 0) 0 0) m
+
+abbrev pub scanned_told : Option Scanned → ScannedForm
+scanned_told None = not_found
+scanned_told (Some found) = scanned_as found.values found.count found.length

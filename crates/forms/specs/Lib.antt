@@ -3,3 +3,4 @@ pub mod Kinds
 pub mod Forms
 pub mod Tables
 pub mod Writing
+pub mod Refusals

@@ -1,6 +1,6 @@
 -- Document 01, 'Texts': "no leading zeros except yyyymmdd and hhmm; a minus only before x, y and box ends, never before 0; at most 10
 -- digits". Each number as a text, and what reading finds at the front of a text. Assumes nothing.
-use Rattle.std.specs.Prelude.{ℕ, zero, suc, ◌+◌, ◌-◌, ◌*◌, ◌/◌, ◌%◌, Bool, true, false, cond, ◌&&◌, List, [], ◌∷◌, ◌++◌, ltb, leb, eqb, ℤ, pos, negsuc}
+use Rattle.std.specs.Prelude.{Option, Some, None, ℕ, zero, suc, ◌+◌, ◌-◌, ◌*◌, ◌/◌, ◌%◌, Bool, true, false, cond, ◌&&◌, List, [], ◌∷◌, ◌++◌, ltb, leb, eqb, ℤ, pos, negsuc}
 use Rattle.places.specs.Places.{on_grid}
 use Rattle.forms.specs.declared.numbers.Number.{Number}
 
@@ -38,6 +38,10 @@ value_and_length v n = record { value = v; length = n }
 
 abbrev pub nothing : Number
 nothing = value_and_length 0 0
+
+-- as the code answers it
+abbrev pub found_number : Number → Option Number
+found_number r = cond (ltb 0 r.length) (Some r) None
 
 unfoldable pub is_digit : ℕ → Bool
 is_digit c = leb 48 c && leb c 57

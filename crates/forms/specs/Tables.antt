@@ -1,11 +1,10 @@
 -- A table of forms: a text, each of whose lines is a form. Assumes nothing.
-use Rattle.std.specs.Prelude.{ℕ, zero, suc, ◌+◌, ◌-◌, Bool, true, false, cond, ◌&&◌, not, List, [], ◌∷◌, ◌++◌, length, take, drop, get_or, replicate, eqb, leb, ltb}
+use Rattle.std.specs.Prelude.{Option, Some, None, ℕ, zero, suc, ◌+◌, ◌-◌, Bool, true, false, cond, ◌&&◌, not, List, [], ◌∷◌, ◌++◌, length, take, drop, get_or, replicate, eqb, leb, ltb}
 use Prim.Native.Char.{code}
 use Prim.Native.String.{String, len, char_at}
 use Rattle.forms.specs.Numbers.{is_digit}
 use Rattle.forms.specs.Kinds.{is_slot}
-use Rattle.forms.specs.Forms.{scan, scanned}
-use Rattle.forms.specs.declared.scanning.Scanned.{Scanned}
+use Rattle.forms.specs.Forms.{ScannedForm, scan, scanned}
 use Rattle.forms.specs.declared.tables.Found.{Found}
 
 -- ---- bytes and lines
@@ -60,7 +59,7 @@ line_at table starts i = part_of table (get_or starts i 0) (get_or starts (suc i
 
 -- ---- the first form that stands at the front of a text; where none does, the number of forms
 
-abbrev pub found_as : ℕ → Scanned → Found
+abbrev pub found_as : ℕ → ScannedForm → Found
 found_as i r = record { form = i; values = r.values; length = r.length }
 
 abbrev pub no_form : ℕ → Found
@@ -80,6 +79,10 @@ found_first t i table s = cond (ltb 0 (length t) && (scanned (scan t s)).matches
 -- the likely form is tried first, by the index
 abbrev pub found_likely : List ℕ → List ℕ → ℕ → List ℕ → Found
 found_likely table starts likely s = found_first (line_at table starts likely) likely table s
+
+-- as the code answers it: every form has some bytes
+abbrev pub found_form : Found → Option Found
+found_form f = cond (ltb 0 f.length) (Some f) None
 
 -- ---- a table whose forms can be told from their texts, as a computed test
 

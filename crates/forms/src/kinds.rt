@@ -3,7 +3,7 @@ ghost use Rattle.std.specs.Prelude.{◌≡◌, true};
 ghost use Rattle.forms.specs.Kinds.{kind_of, syntax_of, in_range, is_slot, IsPlain, amount_of};
 
 use crate::numbers::Number;
-use sets::word64;
+use sets::Set;
 
 #[derive(Clone, Copy)]
 pub enum Syntax {
@@ -39,16 +39,14 @@ impl Kind {
 }
 
 // What a byte of a form stands for.
+#[tactic(auto, unfolding(crate::specs::Kinds::kind_of, crate::specs::Kinds::lookup))]
 pub(crate) fn kind_of(mark: u8) -> Kind
     ensures { result ≡ kind_of mark }
 {
     match mark {
         b'#' => ranged(Syntax::Number, 1, 128),
         b'@' => ranged(Syntax::Number, 0, 63),
-        b'$' => ranged(Syntax::Number, 0, 31),
-        b'%' => ranged(Syntax::Number, 0, 31),
-        b'&' => ranged(Syntax::Number, 0, 31),
-        b'*' => ranged(Syntax::Number, 0, 31),
+        b'$' | b'%' | b'&' | b'*' => ranged(Syntax::Number, 0, 31),
         b'~' => ranged(Syntax::Number, 0, 3_155_759_999),
         b'+' => ranged(Syntax::Signed, 0, 1_000_000),
         b'^' => ranged(Syntax::Number, 1, 100_000),
@@ -69,20 +67,17 @@ pub(crate) fn kind_of(mark: u8) -> Kind
 }
 
 // The number is in the range of its mark (else 11).
+#[tactic(auto, unfolding(crate::specs::Kinds::in_range, crate::specs::Kinds::in_range_by))]
 pub(crate) fn is_in_range(mark: u8, value: u64) -> bool
     ensures { result ≡ in_range mark value }
 {
     let kind = kind_of(mark);
-    let low = kind.low;
-    let high = kind.high;
-    let syntax = kind.syntax;
-    match syntax {
+    let is_between = (kind.low..=kind.high).contains(&value);
+    match kind.syntax {
         Syntax::Literal => true,
-        Syntax::Number => (low <= value) & (value <= high),
-        Syntax::Positive => (low <= value) & (value <= high),
-        Syntax::Signed => amount(value) <= high,
-        Syntax::Date => (low <= value) & (value <= high),
-        Syntax::TimeOfDay => ((low <= value) & (value <= high)) & (value % 100 <= 59),
+        Syntax::Number | Syntax::Positive | Syntax::Date => is_between,
+        Syntax::Signed => amount(value) <= kind.high,
+        Syntax::TimeOfDay => is_between && value % 100 <= 59,
     }
 }
 
@@ -94,9 +89,9 @@ pub(crate) fn is_slot(mark: u8) -> bool
         return mark == b'~';
     }
     if mark < 64 {
-        return word64::member(Kind::MARKS_BELOW_64, mark as usize);
+        return Kind::MARKS_BELOW_64.contains(mark as usize);
     }
-    word64::member(Kind::MARKS_FROM_64, (mark - 64) as usize)
+    Kind::MARKS_FROM_64.contains((mark - 64) as usize)
 }
 
 // Most marks stand before `+` or between `.` and `[`, and all of these are plain numbers'.
@@ -107,22 +102,22 @@ pub(crate) fn is_plain(mark: u8) -> bool
 }
 
 // How the number of a mark is written.
+#[tactic(auto, using(crate::proofs::Marks::number_marks), unfolding(crate::specs::Kinds::kind_of, crate::specs::Kinds::lookup))]
 pub(crate) fn syntax_of(mark: u8) -> Syntax
     requires { is_slot mark ≡ true }
     ensures { result ≡ syntax_of mark }
 {
     match mark {
-        b'+' => Syntax::Signed,
-        b'_' => Syntax::Signed,
+        b'+' | b'_' => Syntax::Signed,
         b'.' => Syntax::Date,
-        b'[' => Syntax::TimeOfDay,
-        b']' => Syntax::TimeOfDay,
+        b'[' | b']' => Syntax::TimeOfDay,
         b'`' => Syntax::Positive,
         _ => Syntax::Number,
     }
 }
 
 // A value without its minus.
+#[tactic(auto, unfolding(crate::specs::Kinds::amount_of))]
 fn amount(value: u64) -> u64
     ensures { result ≡ amount_of value }
 {

@@ -11,4 +11,4 @@ mod writing;
 pub use kinds::{Kind, Syntax};
 pub use numbers::{Number, coordinate, signed_code, signed_value};
 pub use tables::{Found, find, find_likely, line_in_range, write_line};
-pub use writing::Written;
+pub use writing::WriteRefusal;

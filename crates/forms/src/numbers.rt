@@ -1,8 +1,8 @@
 // Numbers as texts write them: plain, with a minus, or with as many digits as a date or a time of day has.
-ghost use Rattle.std.specs.Prelude.{◌≡◌, ◌≤◌};
-ghost use Rattle.forms.specs.Numbers.{read_number, read_positive, read_signed, read_fixed, read_byte, is_digit, digit_value, signed_value, signed_code, coordinate_of};
+ghost use Rattle.std.specs.Prelude.{◌≡◌, ◌≤◌, ◌<◌, ◌+◌, ◌*◌, ◌&&◌, cond, ltb, Some, None};
+ghost use Rattle.forms.specs.Numbers.{read_number, read_positive, read_signed, read_fixed, read_byte, found_number, is_digit, digit_value, signed_value, signed_code, coordinate_of};
 
-// What stands at the front of a text: its value and how many bytes it takes; 0 bytes where it does not stand there.
+// A number at the front of a text: its value, and how many bytes it takes.
 #[derive(Clone, Copy)]
 pub struct Number {
     pub value: u64,
@@ -16,104 +16,80 @@ impl Number {
 
 // No leading zeros, at most ten digits.
 #[tactic(auto, using(crate::proofs::Turns::zeros))]
-pub(crate) fn read_number(text: &[u8]) -> Number
-    ensures { result ≡ read_number text.now }
+pub(crate) fn read_number(text: &[u8]) -> Option<Number>
+    ensures { result ≡ found_number (read_number text.now) }
 {
-    if text.len() == 0 {
-        return nothing();
-    }
-    let first = text[0];
-    if first == b'0' {
-        return Number {
+    let [first, rest @ ..] = text else {
+        return None;
+    };
+    if *first == b'0' {
+        return Some(Number {
             value: 0,
             length: 1,
+        });
+    }
+    let mut value = continued(0, *first)?;
+    for (i, byte) in rest.iter().enumerate() {
+        let Some(longer) = continued(value, *byte) else {
+            return Some(Number {
+                value,
+                length: 1 + i,
+            });
         };
+        value = longer;
     }
-    if !is_digit(first) {
-        return nothing();
-    }
-    let mut value = digit_value(first);
-    let mut i: usize = 1;
-    while i < text.len() {
-        let digit = text[i];
-        if !((value < 1_000_000_000) & is_digit(digit)) {
-            return Number { value, length: i };
-        }
-        value = value * 10 + digit_value(digit);
-        i += 1;
-    }
-    Number { value, length: i }
+    Some(Number {
+        value,
+        length: text.len(),
+    })
 }
 
 // A number other than 0.
-pub(crate) fn read_positive(text: &[u8]) -> Number
-    ensures { result ≡ read_positive text.now }
+pub(crate) fn read_positive(text: &[u8]) -> Option<Number>
+    ensures { result ≡ found_number (read_positive text.now) }
 {
-    let number = read_number(text);
-    if 0 < number.value {
-        return number;
-    }
-    nothing()
+    let number = read_number(text)?;
+    (0 < number.value).then_some(number)
 }
 
 // A number, or a minus and a number other than 0.
-pub(crate) fn read_signed(text: &[u8]) -> Number
-    ensures { result ≡ read_signed text.now }
+pub(crate) fn read_signed(text: &[u8]) -> Option<Number>
+    ensures { result ≡ found_number (read_signed text.now) }
 {
-    if text.len() == 0 {
-        return nothing();
-    }
-    if text[0] == b'-' {
-        let amount = read_number(&text[1..]);
-        if 0 < amount.value {
-            return Number {
-                value: Number::MINUS + amount.value,
-                length: 1 + amount.length,
-            };
-        }
-        return nothing();
-    }
-    read_number(text)
+    let [b'-', rest @ ..] = text else {
+        return read_number(text);
+    };
+    let amount = read_positive(rest)?;
+    Some(Number {
+        value: Number::MINUS + amount.value,
+        length: 1 + amount.length,
+    })
 }
 
 // A number of just so many digits.
-pub(crate) fn read_fixed(count: usize, text: &[u8]) -> Number
-    requires { count ≤ 8 }
-    ensures { result ≡ read_fixed count text.now }
+pub(crate) fn read_fixed(count: usize, text: &[u8]) -> Option<Number>
+    requires { (0 < count) × (count ≤ 8) }
+    ensures { result ≡ found_number (read_fixed count text.now) }
 {
-    let mut value: u64 = 0;
-    let mut i: usize = 0;
-    while i < count {
-        if text.len() <= i {
-            return nothing();
-        }
-        let digit = text[i];
-        if !is_digit(digit) {
-            return nothing();
-        }
-        value = value * 10 + digit_value(digit);
-        i += 1;
+    let mut value = 0;
+    for byte in text.get(..count)? {
+        value = continued(value, *byte)?;
     }
-    Number {
+    Some(Number {
         value,
         length: count,
-    }
+    })
 }
 
 // The byte itself.
-pub(crate) fn read_byte(expected: u8, text: &[u8]) -> Number
-    ensures { result ≡ read_byte expected text.now }
+#[tactic(auto, unfolding(crate::specs::Numbers::read_byte))]
+pub(crate) fn read_byte(expected: u8, text: &[u8]) -> Option<Number>
+    ensures { result ≡ found_number (read_byte expected text.now) }
 {
-    if text.len() == 0 {
-        return nothing();
-    }
-    if text[0] == expected {
-        return Number {
-            value: 0,
-            length: 1,
-        };
-    }
-    nothing()
+    (text.first() == Some(&expected)).then_some(Number {
+        value: 0,
+        length: 1,
+    })
 }
 
 // The number that is held as value. What is no such number is 0.
@@ -151,27 +127,10 @@ pub fn signed_code(number: i32) -> u64
     wide as u64
 }
 
-fn nothing() -> Number
-    ensures { result ≡ record { value = 0; length = 0 } }
+// The number with one digit more: none where the byte is no digit, or it has ten digits already.
+#[tactic(auto, unfolding(crate::specs::Numbers::is_digit))]
+fn continued(value: u64, byte: u8) -> Option<u64>
+    ensures { result ≡ cond (ltb value 1000000000 && is_digit byte) (Some (value * 10 + digit_value byte)) None }
 {
-    Number {
-        value: 0,
-        length: 0,
-    }
-}
-
-fn is_digit(byte: u8) -> bool
-    ensures { result ≡ is_digit byte }
-{
-    (b'0' <= byte) & (byte <= b'9')
-}
-
-fn digit_value(byte: u8) -> u64
-    ensures { result ≡ digit_value byte }
-{
-    let wide = byte as u64;
-    if wide < 48 {
-        return 0;
-    }
-    wide - 48
+    (value < 1_000_000_000 && byte.is_ascii_digit()).then(|| value * 10 + u64::from(byte - b'0'))
 }

@@ -1,102 +1,87 @@
 // One form against the front of a text.
-ghost use Rattle.std.specs.Prelude.{◌≡◌, cond, true, length, drop, set};
-ghost use Rattle.forms.specs.Numbers.{read_byte, value_and_length, nothing};
+ghost use Rattle.std.specs.Prelude.{◌≡◌, ◌+◌, ◌≤◌, ◌<◌, true, cond, drop, replicate, set};
+ghost use Rattle.forms.specs.Numbers.{found_number, read_byte, value_and_length, nothing};
 ghost use Rattle.forms.specs.Kinds.{is_slot};
-ghost use Rattle.forms.specs.Forms.{read_item, scan, scanned, not_found};
+ghost use Rattle.forms.specs.Forms.{read_item, scan, scanned, scanned_told};
+ghost use Rattle.forms.specs.Writing.{last_place};
 
 use crate::kinds::{Syntax, is_plain, is_slot, syntax_of};
 use crate::numbers::{Number, read_byte, read_fixed, read_number, read_positive, read_signed};
 
-// The values so far, how many they are, and the bytes that they and what stands between them take.
+// What was read so far: the values, how many they are, and the bytes that they and what stands between them take.
 #[derive(Clone, Copy)]
-pub struct Scanned {
+pub(crate) struct Scanned {
     pub values: [u64; 6],
     pub count: usize,
     pub length: usize,
-    pub matches: bool,
+}
+
+impl Scanned {
+    fn nothing() -> Scanned
+        ensures { result ≡ record { values = replicate 6 0; count = 0; length = 0 } }
+    {
+        Scanned {
+            values: [0; 6],
+            count: 0,
+            length: 0,
+        }
+    }
+
+    // One number more. A seventh has no place.
+    fn add(&mut self, number: Number)
+        requires { (self.old.count < last_place) × (self.old.length + number.length ≤ last_place) }
+        ensures { self.new ≡ record { values = set self.old.values self.old.count number.value; count = self.old.count + 1; length = self.old.length + number.length } }
+    {
+        if self.count < self.values.len() {
+            self.values[self.count] = number.value;
+        }
+        self.count += 1;
+        self.length += number.length;
+    }
 }
 
 // The form at the front of the text. Its own bytes are compared as they stand, and only a mark is looked up.
-pub(crate) fn scan_form(form: &[u8], text: &[u8]) -> Scanned
-    ensures { result ≡ scanned (scan form.now text.now) }
+pub(crate) fn scan_form(form: &[u8], text: &[u8]) -> Option<Scanned>
+    ensures { scanned_told result ≡ scanned (scan form.now text.now) }
 {
-    let mut values = [0; 6];
-    let mut count: usize = 0;
-    let mut length: usize = 0;
-    let mut i: usize = 0;
-    while i < form.len() {
-        let mark = form[i];
-        if !is_slot(mark) {
-            if !stands(mark, text, length) {
-                return unmatched();
-            }
-            length += 1;
-            i += 1;
+    let mut scanned = Scanned::nothing();
+    for mark in form {
+        if is_slot(*mark) {
+            let rest = &text[scanned.length..];
+            let number = read_item(*mark, rest)?;
+            scanned.add(number);
             continue;
         }
-        let item = read_item(mark, &text[length..]);
-        if item.length == 0 {
-            return unmatched();
+        if !stands(*mark, text, scanned.length) {
+            return None;
         }
-        store(&mut values, count, item.value);
-        count += 1;
-        length += item.length;
-        i += 1;
+        scanned.length += 1;
     }
-    Scanned {
-        values,
-        count,
-        length,
-        matches: true,
-    }
+    Some(scanned)
 }
 
 // The byte stands at that place.
+#[tactic(auto, using(crate::proofs::Turns::places))]
 fn stands(byte: u8, text: &[u8], at: usize) -> bool
     ensures { cond result (value_and_length 0 1) nothing ≡ read_byte byte (drop at text.now) }
 {
-    if at < text.len() {
-        return text[at] == byte;
-    }
-    false
-}
-
-// A seventh number has no place.
-fn store(values: &mut [u64; 6], count: usize, value: u64)
-    requires { length values.old ≡ 6 }
-    ensures { values.new ≡ set values.old count value }
-{
-    if count < 6 {
-        values[count] = value;
-    }
+    at < text.len() && text[at] == byte
 }
 
 // The number of a mark at the front of the text.
-fn read_item(mark: u8, text: &[u8]) -> Number
+fn read_item(mark: u8, text: &[u8]) -> Option<Number>
     requires { is_slot mark ≡ true }
-    ensures { result ≡ read_item mark text.now }
+    ensures { result ≡ found_number (read_item mark text.now) }
 {
     if is_plain(mark) {
         return read_number(text);
     }
-    let syntax = syntax_of(mark);
-    match syntax {
+    match syntax_of(mark) {
         Syntax::Literal => read_byte(mark, text),
         Syntax::Number => read_number(text),
         Syntax::Positive => read_positive(text),
         Syntax::Signed => read_signed(text),
         Syntax::Date => read_fixed(8, text),
         Syntax::TimeOfDay => read_fixed(4, text),
-    }
-}
-
-fn unmatched() -> Scanned
-    ensures { result ≡ not_found }
-{
-    Scanned {
-        values: [0; 6],
-        count: 0,
-        length: 0,
-        matches: false,
     }
 }

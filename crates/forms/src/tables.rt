@@ -1,7 +1,7 @@
 // Tables of forms: a text, each of whose lines is a form.
 ghost use Rattle.std.specs.Prelude.{◌≡◌, length};
 ghost use Rattle.forms.specs.Forms.{all_in_range, fill};
-ghost use Rattle.forms.specs.Tables.{found, found_likely, line_at, line_end};
+ghost use Rattle.forms.specs.Tables.{found_form, found, found_likely, line_at, line_end};
 ghost use Rattle.forms.specs.Writing.{Wrote};
 
 use crate::kinds::{is_in_range, is_slot};
@@ -16,49 +16,44 @@ pub struct Found {
     pub length: usize,
 }
 
-// The first form of the table at the front of the text; where there is none, the number of forms and no bytes.
-pub fn find(table: &[u8], text: &[u8]) -> Found
-    ensures { result ≡ found table.now text.now }
+// The first form of the table at the front of the text.
+pub fn find(table: &[u8], text: &[u8]) -> Option<Found>
+    ensures { result ≡ found_form (found table.now text.now) }
 {
     let mut rest = table;
-    let mut form: usize = 0;
-    while 0 < rest.len() {
+    let mut form = 0;
+    while !rest.is_empty() {
         let end = line_end(rest);
-        let scanned = scan_form(&rest[..end], text);
-        if scanned.matches {
-            let values = scanned.values;
-            return Found {
-                form,
-                values,
-                length: scanned.length,
-            };
+        if let Some(scanned) = scan_form(&rest[..end], text) {
+            return Some(found_as(form, scanned));
         }
         rest = &rest[end..];
         form += 1;
     }
-    Found {
-        form,
-        values: [0; 6],
-        length: 0,
-    }
+    None
 }
 
 // The same, with a likely form tried first. The index has where each line of the table starts, and where the last one ends. Where no two
 // forms have a text in common and the index is right, a wrong guess costs time and nothing else.
-pub fn find_likely(table: &[u8], starts: &[usize], likely: usize, text: &[u8]) -> Found
-    ensures { result ≡ found_likely table.now starts.now likely text.now }
+pub fn find_likely(table: &[u8], starts: &[usize], likely: usize, text: &[u8]) -> Option<Found>
+    ensures { result ≡ found_form (found_likely table.now starts.now likely text.now) }
 {
     let form = line_at(table, starts, likely);
-    if form.len() == 0 {
+    if form.is_empty() {
         return find(table, text);
     }
-    let scanned = scan_form(form, text);
-    if !scanned.matches {
-        return find(table, text);
+    match scan_form(form, text) {
+        Some(scanned) => Some(found_as(likely, scanned)),
+        None => find(table, text),
     }
+}
+
+fn found_as(form: usize, scanned: Scanned) -> Found
+    ensures { result ≡ record { form = form; values = scanned.values; length = scanned.length } }
+{
     let values = scanned.values;
     Found {
-        form: likely,
+        form,
         values,
         length: scanned.length,
     }
@@ -108,19 +103,15 @@ fn line_at<'a>(table: &'a [u8], starts: &[usize], i: usize) -> &'a [u8]
 fn values_in_range(form: &[u8], values: &[u64]) -> bool
     ensures { result ≡ all_in_range form.now values.now }
 {
-    let mut count: usize = 0;
-    let mut i: usize = 0;
-    while i < form.len() {
-        let mark = form[i];
-        if !is_slot(mark) {
-            i += 1;
+    let mut count = 0;
+    for mark in form {
+        if !is_slot(*mark) {
             continue;
         }
-        if !is_in_range(mark, value_at(values, count)) {
+        if !is_in_range(*mark, value_at(values, count)) {
             return false;
         }
         count += 1;
-        i += 1;
     }
     true
 }
@@ -129,12 +120,10 @@ fn values_in_range(form: &[u8], values: &[u64]) -> bool
 fn line_end(text: &[u8]) -> usize
     ensures { result ≡ line_end text.now }
 {
-    let mut i: usize = 0;
-    while i < text.len() {
-        if text[i] == 10 {
+    for (i, byte) in text.iter().enumerate() {
+        if *byte == b'\n' {
             return i + 1;
         }
-        i += 1;
     }
-    i
+    text.len()
 }

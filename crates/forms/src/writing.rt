@@ -4,15 +4,30 @@ ghost use Rattle.forms.specs.Numbers.{digits_of, signed_of, fixed_of};
 ghost use Rattle.forms.specs.Kinds.{is_slot};
 ghost use Rattle.forms.specs.Forms.{item_text, fill};
 ghost use Rattle.forms.specs.Writing.{Wrote};
+ghost use Rattle.forms.specs.Refusals.{write_number};
 
 use crate::kinds::{Syntax, is_plain, is_slot, syntax_of};
 use crate::numbers::Number;
 
-// The text's length, or the number of a refusal.
-#[derive(Clone, Copy)]
-pub enum Written {
-    Length(usize),
-    Refused(u64),
+// Why a text is not written.
+#[derive(Clone, Copy, Debug, PartialEq, Eq)]
+pub enum WriteRefusal {
+    // What it would be the text of is not accepted.
+    NotAccepted,
+    // The lent space is shorter than the text.
+    NoRoom,
+}
+
+impl WriteRefusal {
+    // The number that answers name it by.
+    pub fn number(self) -> u64
+        ensures { result ≡ write_number self }
+    {
+        match self {
+            WriteRefusal::NotAccepted => 40,
+            WriteRefusal::NoRoom => 18,
+        }
+    }
 }
 
 // The form with its values, from place `at` on; where it ends.
@@ -20,18 +35,14 @@ pub(crate) fn put_form(form: &[u8], values: &[u64], out: &mut [u8], at: usize) -
     ensures { Wrote out.old at (fill form.now values.now) result out.new }
 {
     let mut place = at;
-    let mut count: usize = 0;
-    let mut i: usize = 0;
-    while i < form.len() {
-        let mark = form[i];
-        if !is_slot(mark) {
-            place = put(mark, out, place);
-            i += 1;
+    let mut count = 0;
+    for mark in form {
+        if !is_slot(*mark) {
+            place = put(*mark, out, place);
             continue;
         }
-        place = put_item(mark, value_at(values, count), out, place);
+        place = put_item(*mark, value_at(values, count), out, place);
         count += 1;
-        i += 1;
     }
     place
 }
@@ -44,11 +55,9 @@ fn put_item(mark: u8, value: u64, out: &mut [u8], at: usize) -> usize
     if is_plain(mark) {
         return put_number(value, out, at);
     }
-    let syntax = syntax_of(mark);
-    match syntax {
+    match syntax_of(mark) {
         Syntax::Literal => put(mark, out, at),
-        Syntax::Number => put_number(value, out, at),
-        Syntax::Positive => put_number(value, out, at),
+        Syntax::Number | Syntax::Positive => put_number(value, out, at),
         Syntax::Signed => put_signed(value, out, at),
         Syntax::Date => put_fixed(8, value, out, at),
         Syntax::TimeOfDay => put_fixed(4, value, out, at),
@@ -69,7 +78,7 @@ fn put_number(value: u64, out: &mut [u8], at: usize) -> usize
     put((48 + value % 10) as u8, out, place)
 }
 
-// One digit after the other, the last one last.
+// One digit after the other, the last one last: by recursion, since a division gives the last one first.
 fn put_digits(value: u64, out: &mut [u8], at: usize) -> usize
     ensures { Wrote out.old at (digits_of value) result out.new }
 {
@@ -117,8 +126,5 @@ fn put(byte: u8, out: &mut [u8], at: usize) -> usize
 pub(crate) fn value_at(values: &[u64], count: usize) -> u64
     ensures { result ≡ get_or values.now count 0 }
 {
-    if count < values.len() {
-        return values[count];
-    }
-    0
+    values.get(count).copied().unwrap_or(0)
 }

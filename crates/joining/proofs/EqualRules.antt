@@ -6,10 +6,13 @@ use mathlib.Core.Logic.{◌↔◌}
 use mathlib.Core.List.{List, [], ◌∷◌, ◌++◌}
 use Prim.Native.Nat.{ℕ, ◌≤◌, ◌<◌}
 use native.Mathlib.Omega.{arith}
-use lib.ListN.{get_or}
+use lib.ListN.{get_or, length}
+use lib.Seq.{ext_get_or}
+use lib.Pointwise.{pointwise}
 use lib.Dec.{eqb}
 use borrow.Author.Tests.{eqb-true, eq-eqb}
-use Rattle.sets.proofs.Booleans.{both_true, left-true, right-true}
+use Rattle.std.proofs.lemmas.Slice.Eq.{bytes_eq-Decides}
+use Rattle.sets.proofs.Booleans.{both_true, left-true, right-true, same_test}
 use Rattle.sets.proofs.Bounded.{all_of, of-all}
 use Rattle.rules.specs.Acceptance.{rule_in_range, rule_distinct, rule_sound, rule_accepted}
 use Rattle.rules.specs.declared.families.Rule.{Rule}
@@ -29,6 +32,15 @@ equal-self rule =
     both_true (eqb (line_of 1 rule).form (line_of 1 rule).form) (same_values (line_of 1 rule).values (line_of 1 rule).values)
     (eq-eqb (line_of 1 rule).form (line_of 1 rule).form refl)
     (all_of 6 (λ i. eqb (get_or (line_of 1 rule).values i 0) (get_or (line_of 1 rule).values i 0)) (λ i h. eq-eqb (get_or (line_of 1 rule).values i 0) (get_or (line_of 1 rule).values i 0) refl))
+
+-- `==` of six values says what the definition does
+pub same-values : (values others : List ℕ) → length values ≡ 6 → length others ≡ 6 → pointwise eqb values others ≡ same_values values others
+same-values values others k l =
+    same_test (pointwise eqb values others) (same_values values others)
+    (λ h. all_of 6 (λ i. eqb (get_or values i 0) (get_or others i 0)) (λ i below. eq-eqb (get_or values i 0) (get_or others i 0) (ap (λ (list : List ℕ). get_or list i 0) ((bytes_eq-Decides values others).0 h))))
+    (λ h. (bytes_eq-Decides values others).1
+    (ext_get_or 0 values others (k ∙ sym l)
+    (λ i below. eqb-true (get_or values i 0) (get_or others i 0) (of-all 6 (λ i. eqb (get_or values i 0) (get_or others i 0)) h i (omega (arith, k))))))
 
 -- the rule of a form hangs on its values below 6 alone
 rule-of-values : (form : ℕ) (values others : List ℕ) → ((i : ℕ) → i < 6 → get_or values i 0 ≡ get_or others i 0) → rule_of_form form values ≡ rule_of_form form others

@@ -3,62 +3,47 @@
 use mathlib.Core.Path.{◌≡◌, refl, sym, ap, ◌∙◌}
 use mathlib.Core.Bool.{Bool, true, false, cond, ◌&&◌}
 use mathlib.Core.Logic.{◌↔◌, ◌⊎◌, inl, inr, ⊎_elim}
-use mathlib.Core.List.{List, [], ◌∷◌, ◌++◌}
+use mathlib.Core.List.{List, []}
 use Prim.Native.Nat.{ℕ, suc, ◌+◌, ◌≤◌, ◌<◌}
 use native.Mathlib.Omega.{arith}
 use lib.ListN.{length}
 use lib.Seq.{ext_get_or}
 use lib.Dec.{ltb}
 use borrow.Author.Tests.{lt-ltb, le-ltb, ltb-true, ltb-false}
-use Rattle.sets.proofs.Booleans.{both_true, left-true, right-true, of-and-false, clash}
+use Rattle.sets.proofs.Booleans.{both_true, left-true, right-true, of-and-false}
 use Rattle.rules.specs.Acceptance.{unstated, right_at, right_accepted, every, rules_of, list_accepted}
 use Rattle.rules.specs.declared.families.Rule.{Rule}
 use Rattle.rules.specs.declared.rights.Right.{Right}
 use Rattle.rules.specs.declared.rights.Right.TheVariants.{Unstated, Permission}
 use Rattle.rules.specs.declared.rights.RightSlot.{RightSlot}
-use Rattle.rules.specs.declared.tests.Tested.{Tested}
-use Rattle.rules.specs.declared.tests.Tested.TheVariants.{Kept, Broken}
+use Rattle.std.specs.Prelude.{Option, Some, None}
 use Rattle.rules.specs.declared.lists.RuleList.{RuleList}
-use Rattle.rule_text.specs.Lines.{line_count}
+use Rattle.rule_text.specs.Lines.{filler, line_count}
 use Rattle.rule_text.specs.Reading.{no_rights, list_of, SameRules}
 use Rattle.rule_text.specs.Causes.{GoodLines}
 use Rattle.rule_text.proofs.Slots.{list-rights, rules-of-list, list-accepted, list-few, accepted-most, accepted-rules, accepted-good, none-good, same-rules}
 use Rattle.rule_text.proofs.Back.{Accepted}
-use Rattle.steps.specs.Lowest.{lowest}
-use Rattle.steps.specs.declared.lowest.Lowest.{Lowest}
-use Rattle.steps.specs.declared.lowest.Lowest.TheVariants.{Unbroken, BrokenAt}
+use Rattle.rules.specs.Lowest.{lowest}
+use Rattle.rules.proofs.RuleLists.{lowest-after, lowest-means}
 use Rattle.enforcement.specs.Plain.{obeys, lowest_broken}
 use Rattle.enforcement.specs.Claims.{In, Holds}
 use Rattle.enforcement.specs.States.{rule_holds}
 use Rattle.enforcement.specs.declared.states.State.{State}
 use Rattle.enforcement.proofs.Holding.{obeys-means}
-use Rattle.joining.specs.Joining.{joined_rules, joined_right, joined_rights, rights_tested, too_many_at, refused_join, rules_joined, joined_under, join_of, ObeyedAsBoth}
+use Rattle.joining.specs.Joining.{number_of, joined_rules, joined_right, joined_rights, rights_tested, too_many_at, refused_join, rules_joined, joined_under, join_of, ObeyedAsBoth}
+use Rattle.joining.specs.declared.refusals.Refusal.{Refusal}
+use Rattle.joining.specs.declared.refusals.Refusal.TheVariants.{NotAccepted, RightsDiffer, TooMany as TooManyRules, NoRoom}
 use Rattle.joining.specs.Claims.{NoDoubles, Joins, KeepsRights, JoinRefused, first_refused, second_refused, rights_differ, too_many}
-use Rattle.joining.specs.declared.lists.Joined.{Joined}
+use Rattle.joining.specs.Joining.{Joined}
 use Rattle.joining.proofs.Rules.{every-joined, joined-accepted, joins, joined-itself, joined-empty, TooMany, too-many-whole, too-many-told, too-many-there}
 use Rattle.joining.proofs.Rights.{right-accepted, none_differ, first-differs, joined_at, joined-kinds, right-joined, keeps-rights}
 
--- ---- the lowest broken rule of a list that continues another
-
-abbrev is_broken : Lowest → Bool
-is_broken Unbroken = false
-is_broken (BrokenAt n) = true
-
-pub lowest-after : (test : Rule → Bool) (n : ℕ) (rules others : List Rule) → every test rules ≡ true → lowest test n (rules ++ others) ≡ lowest test (n + length rules) others
-unfolding lowest every
-lowest-after test n [] others h = ap (λ (m : ℕ). lowest test m others) (omega arith)
-lowest-after test n (rule ∷ rules) others h =
-    rw (left-true (test rule) (every test rules) h)
-    (lowest-after test (suc n) rules others (right-true (test rule) (every test rules) h) ∙ ap (λ (m : ℕ). lowest test m others) (omega arith))
-
-lowest-from : (test : Rule → Bool) (n : ℕ) (rules : List Rule) {m : ℕ} → lowest test n rules ≡ BrokenAt m → n ≤ m
-unfolding lowest
-lowest-from test n [] {m} e = let other : is_broken Unbroken ≡ is_broken (BrokenAt m) = ap is_broken e in clash refl (sym other)
-lowest-from test n (rule ∷ rules) {m} e = go (lowest-from test (suc n) rules) (test rule) e
-  where
-    go : (lowest test (suc n) rules ≡ BrokenAt m → suc n ≤ m) → (b : Bool) → cond b (lowest test (suc n) rules) (BrokenAt n) ≡ BrokenAt m → n ≤ m
-    go later true h = omega (arith, later h)
-    go later false h = let same : n ≡ m = cc in omega (arith, same)
+-- no refusal has the number 0
+pub refusal-some : (refusal : Refusal) → number_of refusal ≡ 0 → ⊥
+refusal-some NotAccepted none = omega arith
+refusal-some (RightsDiffer kind) none = omega arith
+refusal-some (TooManyRules rule) none = omega arith
+refusal-some (NoRoom rules) none = omega arith
 
 module _ (first second : RuleList) where
   abbrev rights_of_both : List RightSlot
@@ -74,11 +59,11 @@ module _ (first second : RuleList) where
   join-40 e = rw e
 
   module _ (accepted : list_accepted first ≡ true) (second_accepted : list_accepted second ≡ true) where
-    pub join-under : {tested : Tested} → rights_tested first.rights second.rights ≡ tested → joined_under tested first second ≡ join_of first second
+    pub join-under : {tested : Option ℕ} → rights_tested first.rights second.rights ≡ tested → joined_under tested first second ≡ join_of first second
     unfolding join_of
     join-under e = rw (accepted, second_accepted, e)
 
-    module _ (kept : rights_tested first.rights second.rights ≡ Kept) where
+    module _ (kept : rights_tested first.rights second.rights ≡ None) where
       joined-if : Bool → Joined
       joined-if many = cond many (refused_join 57 (too_many_at 1 (rules_of first) (rules_of second))) (record { number = 0; place = 0; list = list_of rights_of_both rules_of_both })
 
@@ -98,7 +83,7 @@ module _ (first second : RuleList) where
 
   data Case : Type 0 where
     refused : (number place : ℕ) → JoinRefused first second number place → join_of first second ≡ refused_join number place → Case
-    whole : list_accepted first ≡ true → list_accepted second ≡ true → rights_tested first.rights second.rights ≡ Kept → length rules_of_both ≤ 128
+    whole : list_accepted first ≡ true → list_accepted second ≡ true → rights_tested first.rights second.rights ≡ None → length rules_of_both ≤ 128
         → join_of first second ≡ record { number = 0; place = 0; list = list_of rights_of_both rules_of_both } → Case
 
   case-refused : (list_accepted first ≡ false) ⊎ (list_accepted second ≡ false) → Case
@@ -110,7 +95,7 @@ module _ (first second : RuleList) where
       go false f = refused 40 0 (first_refused f) (sym (join-40 (rw f)))
 
   module _ (accepted : list_accepted first ≡ true) (second_accepted : list_accepted second ≡ true) where
-    case-rules : rights_tested first.rights second.rights ≡ Kept → Case
+    case-rules : rights_tested first.rights second.rights ≡ None → Case
     case-rules kept = go (ltb 128 (length rules_of_both)) refl
       where
         go : (b : Bool) → ltb 128 (length rules_of_both) ≡ b → Case
@@ -124,9 +109,9 @@ module _ (first second : RuleList) where
             let few = ltb-false 128 (length rules_of_both) e in
             whole accepted second_accepted kept few (sym (join-whole accepted second_accepted kept few))
 
-    case-tested : (tested : Tested) → rights_tested first.rights second.rights ≡ tested → Case
-    case-tested Kept e = case-rules e
-    case-tested (Broken kind) e =
+    case-tested : (tested : Option ℕ) → rights_tested first.rights second.rights ≡ tested → Case
+    case-tested None e = case-rules e
+    case-tested (Some kind) e =
         let differ = (first-differs first.rights second.rights kind).0 e in
         refused 58 kind (rights_differ kind accepted second_accepted differ.0 differ.1 differ.2) (sym (join-under accepted second_accepted e))
 
@@ -193,7 +178,7 @@ module _ (first second : RuleList) where
   pub record Whole : Type 0 where
     pub accepted : list_accepted first ≡ true
     pub second_accepted : list_accepted second ≡ true
-    pub kept : rights_tested first.rights second.rights ≡ Kept
+    pub kept : rights_tested first.rights second.rights ≡ None
     pub few : length rules_of_both ≤ 128
     pub made : join_of first second ≡ record { number = 0; place = 0; list = list_of rights_of_both rules_of_both }
 
@@ -241,12 +226,12 @@ module _ (first second : RuleList) where
         )
 
     -- THEOREM: a state that obeys the first list breaks no rule of the joined one but those past it
-    pub broken-past-first : (s : State) (rule : ℕ) → obeys (rules_of first) s ≡ true → lowest_broken (rules_of (join_of first second).list) s ≡ BrokenAt rule → length (rules_of first) < rule
+    pub broken-past-first : (s : State) (rule : ℕ) → obeys (rules_of first) s ≡ true → lowest_broken (rules_of (join_of first second).list) s ≡ Some rule → length (rules_of first) < rule
     broken-past-first s rule obeyed broken =
         let test : Rule → Bool = λ k. rule_holds k s in
-        let found : lowest test (1 + length (rules_of first)) list-joins.past ≡ BrokenAt rule =
+        let found : lowest test (1 + length (rules_of first)) list-joins.past ≡ Some rule =
         sym (ap (lowest test 1) list-joins.front ∙ lowest-after test 1 (rules_of first) list-joins.past obeyed) ∙ broken in
-        omega (arith, lowest-from test (1 + length (rules_of first)) list-joins.past found)
+        omega (arith, ((lowest-means test filler (1 + length (rules_of first)) list-joins.past rule).0 found).1)
 
   -- what `join` promises
   pub obeyed-as-both : {joined : Joined} → joined ≡ join_of first second → ObeyedAsBoth first second joined
@@ -287,7 +272,7 @@ join-kinds first second = ⊎_elim
 -- ---- a list with itself and with the empty one
 
 -- no right differs from itself
-itself-agrees : (rights : List RightSlot) → rights_tested rights rights ≡ Kept
+itself-agrees : (rights : List RightSlot) → rights_tested rights rights ≡ None
 itself-agrees rights = (none_differ rights rights).1 (λ kind below differ. differ.4 (same-permission differ.2 differ.3))
   where
     same-permission : {right : Right} {p q : ℕ} → right ≡ Permission p → right ≡ Permission q → p ≡ q
@@ -298,7 +283,7 @@ unstated-differs : {right : Right} {p : ℕ} → right ≡ Unstated → right �
 unstated-differs {right} {p} e f = let same : line_count Unstated ≡ line_count (Permission p) = ap line_count (sym e ∙ f) in omega (arith, same)
 
 -- where the joined rights and rules are a list's own, the joined list is that list
-same-joined : (list first second : RuleList) → Accepted list → list_accepted first ≡ true → list_accepted second ≡ true → rights_tested first.rights second.rights ≡ Kept
+same-joined : (list first second : RuleList) → Accepted list → list_accepted first ≡ true → list_accepted second ≡ true → rights_tested first.rights second.rights ≡ None
     → ((kind : ℕ) → kind < 6 → joined_right (right_at first.rights kind) (right_at second.rights kind) ≡ right_at list.rights kind)
     → joined_rules (rules_of first) (rules_of second) ≡ rules_of list
     → join_of first second ≡ record { number = 0; place = 0; list = list_of list.rights (rules_of list) }

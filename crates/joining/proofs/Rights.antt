@@ -1,15 +1,13 @@
 -- The rights of two lists: where they can be joined each right of either is kept, and the first kind of which they cannot is told.
 -- Assumes nothing.
-use mathlib.Core.Path.{◌≡◌, refl, sym, ap, ◌∙◌}
+use mathlib.Core.Path.{◌≡◌, refl, sym, ap, ◌∙◌, subst}
 use mathlib.Core.Bool.{Bool, true, false}
-use mathlib.Core.Logic.{◌↔◌, ⊎_elim}
-use mathlib.Core.List.{List, []}
-use Prim.Native.Nat.{ℕ, zero, suc, ◌+◌, ◌≤◌, ◌<◌}
-use native.Mathlib.Nat.{eq-or-lt_of_le, le_of_suc-le-suc}
-use native.Mathlib.Numerals.{add-one}
+use mathlib.Core.Logic.{◌↔◌}
+use mathlib.Core.List.{List}
+use Prim.Native.Nat.{ℕ, zero, suc, ◌<◌, zero-le}
 use native.Mathlib.Omega.{arith}
-use lib.ListN.{length, set, get_or, length-set}
-use lib.Seq.{ext_get_or, get_or-set_same, get_or-set_other}
+use lib.ListN.{length, get_or}
+use lib.Seq.{ext_get_or}
 use lib.Dec.{eqb}
 use borrow.Author.Tests.{eqb-true, eq-eqb, ne_eqb}
 use Rattle.sets.proofs.Booleans.{clash}
@@ -18,10 +16,11 @@ use Rattle.rules.specs.Breach.{is_kept}
 use Rattle.rules.specs.declared.rights.Right.{Right}
 use Rattle.rules.specs.declared.rights.Right.TheVariants.{Unstated, Permission}
 use Rattle.rules.specs.declared.rights.RightSlot.{RightSlot}
-use Rattle.rules.specs.declared.tests.Tested.TheVariants.{Kept, Broken}
-use Rattle.rules.specs.declared.lists.RuleList.{RuleList}
+use Rattle.std.specs.Prelude.{Option, Some, None}
+use Rattle.std.specs.Option.{MatchOption}
+use Rattle.std.specs.List.{AllWithin, HoldsAt, zip}
+use Rattle.std.proofs.lemmas.Slice.Zip.{length-zip, get_or-zip}
 use Rattle.rules.proofs.Breach.{first-none, kept-means, broken-means}
-use Rattle.rule_text.specs.Reading.{right_slot, no_rights, list_of}
 use Rattle.joining.specs.Joining.{joined_right, joined_slot, joined_rights, rights_agree, rights_tested}
 use Rattle.joining.specs.Claims.{KeepsRights, Differ}
 
@@ -59,17 +58,17 @@ module _ (first second : List RightSlot) where
       go true e = e
       go false e = absurd (none (agree-or-differ (right_at first kind) (right_at second kind) e))
 
-  pub kept-agree : rights_tested first second ≡ Kept → (kind : ℕ) → kind < 6 → agree_at kind ≡ true
+  pub kept-agree : rights_tested first second ≡ None → (kind : ℕ) → kind < 6 → agree_at kind ≡ true
   kept-agree e kind below = (kept-means 6 agree_at).0 (ap is_kept e) kind below
 
-  pub none_differ : (rights_tested first second ≡ Kept) ↔ ((kind : ℕ) → kind < 6 → DifferAt kind → ⊥)
+  pub none_differ : (rights_tested first second ≡ None) ↔ ((kind : ℕ) → kind < 6 → DifferAt kind → ⊥)
   none_differ = (
     λ e kind below. agrees kind (kept-agree e kind below),
     λ none. first-none 6 agree_at (λ kind below. agreed kind (none kind below)),
   )
 
   pub first-differs : (kind : ℕ)
-      → (rights_tested first second ≡ Broken kind) ↔ ((kind < 6) × DifferAt kind × ((earlier : ℕ) → earlier < kind → DifferAt earlier → ⊥))
+      → (rights_tested first second ≡ Some kind) ↔ ((kind < 6) × DifferAt kind × ((earlier : ℕ) → earlier < kind → DifferAt earlier → ⊥))
   first-differs kind = (
     λ e.
         let found = (broken-means 6 agree_at kind).0 e in
@@ -78,6 +77,35 @@ module _ (first second : List RightSlot) where
         (broken-means 6 agree_at kind).1
         (differ.0, differ-disagree (right_at first kind) (right_at second kind) differ.1, λ earlier before. agreed earlier (differ.2 earlier before)),
   )
+
+-- the rights of a kind, one of each list, agree or differ
+abbrev pub Agree : RightSlot × RightSlot → Type 0
+Agree pair = rights_agree pair.0.right pair.1.right ≡ true
+
+abbrev pub Apart : RightSlot × RightSlot → Type 0
+Apart pair = rights_agree pair.0.right pair.1.right ≡ false
+
+-- the place of the first pair that differs is the kind
+pub first_apart : (first second : List RightSlot) (found : Option ℕ) → length first ≡ 6 → length second ≡ 6
+    → MatchOption found (AllWithin Agree (zip first second) 0 (length (zip first second)))
+    (λ kind. (kind < length (zip first second)) × HoldsAt Apart (zip first second) kind × AllWithin Agree (zip first second) 0 kind)
+    → found ≡ rights_tested first second
+first_apart first second found k l = go found
+  where
+    long : length (zip first second) ≡ 6
+    long = omega (arith, length-zip first second)
+
+    pair : (kind : ℕ) → kind < 6 → get_or (zip first second) kind (unstated, unstated) ≡ (get_or first kind unstated, get_or second kind unstated)
+    pair kind below = get_or-zip first second kind (unstated, unstated) (omega arith) (omega arith)
+
+    go : (found : Option ℕ) → MatchOption found (AllWithin Agree (zip first second) 0 (length (zip first second)))
+        (λ kind. (kind < length (zip first second)) × HoldsAt Apart (zip first second) kind × AllWithin Agree (zip first second) 0 kind)
+        → found ≡ rights_tested first second
+    go None all = sym (first-none 6 (agree_at first second) (λ kind below. subst Agree (pair kind below) (all kind (unstated, unstated) zero-le (omega (arith, long)))))
+    go (Some kind) (below, here, before) =
+        let low : kind < 6 = omega (arith, long) in
+        sym ((broken-means 6 (agree_at first second) kind).1
+        (low, subst Apart (pair kind low) (here (unstated, unstated)), λ earlier h. subst Agree (pair earlier (omega (arith, h, low))) (before earlier (unstated, unstated) zero-le h)))
 
 -- ---- the joined rights
 
@@ -99,7 +127,7 @@ pub right-joined : (first second : List RightSlot) (kind : ℕ) → kind < 6 →
 right-joined first second kind below = ap (λ (slot : RightSlot). slot.right) (joined_at first second kind below)
 
 -- THEOREM: right lines of either list are kept, equal ones once
-pub keeps-rights : (first second : List RightSlot) → rights_tested first second ≡ Kept → KeepsRights first second (joined_rights first second)
+pub keeps-rights : (first second : List RightSlot) → rights_tested first second ≡ None → KeepsRights first second (joined_rights first second)
 keeps-rights first second kept = record {
   of_first = λ kind p below e. right-joined first second kind below ∙ ap (λ (right : Right). joined_right right (right_at second kind)) e;
   of_second = λ kind p below e. right-joined first second kind below ∙ from_second (right_at first kind) (right_at second kind) p e (kept-agree first second kept kind below);
@@ -111,39 +139,22 @@ keeps-rights first second kept = record {
     from_second (Permission q) other p e agree =
         let same : eqb q p ≡ true = ap (rights_agree (Permission q)) (sym e) ∙ agree in ap Permission (eqb-true q p same)
 
--- ---- the loop that joins them
-
-pub record Filled (first second : List RightSlot) (list : RuleList) (kind : ℕ) : Type 0 where
-  pub last : kind ≤ 6
-  pub kinds : length list.rights ≡ 6
-  pub no_rules : list ≡ list_of list.rights []
-  pub below : (k : ℕ) → k < kind → get_or list.rights k unstated ≡ joined_slot first second k
-
-pub filled-start : {first second : List RightSlot} {list : RuleList} → list ≡ list_of no_rights [] → Filled first second list 0
-unfolding list_of no_rights
-filled-start e = record {
-  last = omega arith;
-  kinds = ap (λ (l : RuleList). length l.rights) e;
-  no_rules = e ∙ ap (λ (rights : List RightSlot). list_of rights []) (sym (ap (λ (l : RuleList). l.rights) e));
-  below = λ k before. absurd (omega arith);
-}
-
-pub filled-turn : {first second : List RightSlot} {list : RuleList} {kind : ℕ} → Filled first second list kind → kind < 6 → {right : Right} → right ≡ joined_right (right_at first kind) (right_at second kind)
-    → Filled first second (record { slots = list.slots; length = list.length; rights = set list.rights kind (right_slot right) }) (kind + 1)
-unfolding list_of
-filled-turn {first} {second} {list} {kind} filled more {right} e = record {
-  last = omega arith;
-  kinds = length-set list.rights kind (right_slot right) ∙ filled.kinds;
-  no_rules = ap (λ (l : RuleList). record { slots = l.slots; length = l.length; rights = set list.rights kind (right_slot right) }) filled.no_rules;
-  below = λ k before. ⊎_elim
-      (λ same. rw same (get_or-set_same list.rights kind (right_slot right) unstated (omega (arith, filled.kinds)) ∙ ap right_slot e))
-      (λ less. get_or-set_other list.rights kind k (right_slot right) unstated (λ same. omega arith) ∙ filled.below k less)
-      (eq-or-lt_of_le (le_of_suc-le-suc (rw (add-one kind) at before)));
-}
-
-pub filled-end : {first second : List RightSlot} {list : RuleList} {kind : ℕ} → Filled first second list kind → 6 ≤ kind → list ≡ list_of (joined_rights first second) []
-filled-end {first} {second} {list} {kind} filled done =
-    filled.no_rules
-    ∙ ap (λ (rights : List RightSlot). list_of rights [])
-    (ext_get_or unstated list.rights (joined_rights first second) (filled.kinds ∙ sym (joined-kinds first second))
-    (λ k before. filled.below k (omega (arith, filled.kinds)) ∙ sym (joined_at first second k (omega (arith, filled.kinds)))))
+-- what has the joined right of each kind
+pub six_rights : (first second rights : List RightSlot) → length rights ≡ 6
+    → get_or rights 0 unstated ≡ joined_slot first second 0
+    → get_or rights 1 unstated ≡ joined_slot first second 1
+    → get_or rights 2 unstated ≡ joined_slot first second 2
+    → get_or rights 3 unstated ≡ joined_slot first second 3
+    → get_or rights 4 unstated ≡ joined_slot first second 4
+    → get_or rights 5 unstated ≡ joined_slot first second 5
+    → rights ≡ joined_rights first second
+six_rights first second rights sized a b c d e f = ext_get_or unstated rights (joined_rights first second) (sized ∙ sym (joined-kinds first second)) (λ kind below. at kind (omega (arith, sized)) ∙ sym (joined_at first second kind (omega (arith, sized))))
+  where
+    at : (kind : ℕ) → kind < 6 → get_or rights kind unstated ≡ joined_slot first second kind
+    at zero below = a
+    at (suc zero) below = b
+    at (suc (suc zero)) below = c
+    at (suc (suc (suc zero))) below = d
+    at (suc (suc (suc (suc zero)))) below = e
+    at (suc (suc (suc (suc (suc zero))))) below = f
+    at (suc (suc (suc (suc (suc (suc kind)))))) below = absurd (omega arith)

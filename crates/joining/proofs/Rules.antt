@@ -1,40 +1,27 @@
 -- The rules of the joined list: what any test says of them, where each of them is from, and where there are too many.
 -- Assumes nothing.
 use mathlib.Core.Path.{◌≡◌, refl, sym, ap, ◌∙◌}
-use mathlib.Core.Bool.{Bool, true, false, not, ◌&&◌, true≢false, false≢true}
+use mathlib.Core.Bool.{Bool, true, false, not, ◌&&◌}
 use mathlib.Core.Logic.{◌⊎◌, inl, inr, ⊎_elim}
-use mathlib.Core.List.{List, [], ◌∷◌, ◌++◌, append-nil, append_assoc}
+use mathlib.Core.List.{List, [], ◌∷◌, ◌++◌, map, append-nil, append_assoc}
 use Prim.Native.Nat.{ℕ, zero, suc, ◌+◌, ◌≤◌, ◌<◌}
 use native.Mathlib.Omega.{arith}
 use lib.ListN.{length, take, drop, length-append, take-append-drop, get_or-append}
 use lib.Seq.{get_or_at}
 use lib.Dec.{ltb}
-use borrow.Author.Tests.{lt-ltb, le-ltb, ltb-true, ltb-false}
+use borrow.Author.Tests.{lt-ltb, le-ltb, ltb-true, ltb-false, not-true, not-false}
 use Rattle.sets.proofs.Booleans.{both_true, left-true, right-true, same_test, not_so, clash}
-use Rattle.rules.specs.Acceptance.{rule_accepted, every}
+use Rattle.std.specs.List.{list_all}
+use Rattle.rules.specs.Acceptance.{rule_of, rule_accepted, every}
+use Rattle.rules.specs.declared.lists.Slot.{Slot}
 use Rattle.rules.specs.declared.families.Rule.{Rule}
+use Rattle.rules.proofs.RuleLists.{every-append, passes-at, passes-all, fails-at}
+use Rattle.rule_text.specs.Lines.{filler}
 use Rattle.joining.specs.Joining.{equal_rules, equals_none, with_new, joined_rules, too_many_at}
 use Rattle.joining.specs.Claims.{rule_at, NoDoubles, InOrder, none, left_out, taken, Joins}
 use Rattle.joining.proofs.EqualRules.{equal-self, equal-same}
 
 -- ---- every rule of a list
-
-every_append : (p : Rule → Bool) (rules others : List Rule) → every p rules ≡ true → every p others ≡ true → every p (rules ++ others) ≡ true
-unfolding every
-every_append p [] others h k = k
-every_append p (rule ∷ rules) others h k =
-    both_true (p rule) (every p (rules ++ others)) (left-true (p rule) (every p rules) h) (every_append p rules others (right-true (p rule) (every p rules) h) k)
-
-every_front : (p : Rule → Bool) (rules others : List Rule) → every p (rules ++ others) ≡ true → every p rules ≡ true
-unfolding every
-every_front p [] others h = refl
-every_front p (rule ∷ rules) others h =
-    both_true (p rule) (every p rules) (left-true (p rule) (every p (rules ++ others)) h) (every_front p rules others (right-true (p rule) (every p (rules ++ others)) h))
-
-every_rest : (p : Rule → Bool) (rules others : List Rule) → every p (rules ++ others) ≡ true → every p others ≡ true
-unfolding every
-every_rest p [] others h = h
-every_rest p (rule ∷ rules) others h = every_rest p rules others (right-true (p rule) (every p (rules ++ others)) h)
 
 every_one : (p : Rule → Bool) (rule : Rule) → every p (rule ∷ []) ≡ p rule
 unfolding every
@@ -44,28 +31,11 @@ every_one p rule = go (p rule)
     go true = refl
     go false = refl
 
--- by the place of each
-every-at : (p : Rule → Bool) (rules : List Rule) → every p rules ≡ true → (i : ℕ) → i < length rules → p (rule_at rules i) ≡ true
+-- of the rules in some slots
+pub every-slots : (p : Rule → Bool) (slots : List Slot) → list_all (λ (slot : Slot). p slot.rule) slots ≡ every p (map rule_of slots)
 unfolding every
-every-at p [] h i below = absurd (omega arith)
-every-at p (rule ∷ rules) h zero below = left-true (p rule) (every p rules) h
-every-at p (rule ∷ rules) h (suc i) below = every-at p rules (right-true (p rule) (every p rules) h) i (omega arith)
-
-every-by-place : (p : Rule → Bool) (rules : List Rule) → ((i : ℕ) → i < length rules → p (rule_at rules i) ≡ true) → every p rules ≡ true
-unfolding every
-every-by-place p [] h = refl
-every-by-place p (rule ∷ rules) h = both_true (p rule) (every p rules) (h 0 (omega arith)) (every-by-place p rules (λ i below. h (suc i) (omega arith)))
-
--- where not every rule passes, one fails
-some-fails : (p : Rule → Bool) (rules : List Rule) → every p rules ≡ false → (i : ℕ) × (i < length rules) × (p (rule_at rules i) ≡ false)
-unfolding every
-some-fails p [] h = absurd (true≢false h)
-some-fails p (rule ∷ rules) h = go (some-fails p rules) (p rule) refl
-  where
-    go : (every p rules ≡ false → (i : ℕ) × (i < length rules) × (p (rule_at rules i) ≡ false)) → (b : Bool) → p rule ≡ b
-        → (i : ℕ) × (i < suc (length rules)) × (p (rule_at (rule ∷ rules) i) ≡ false)
-    go later true e = let rest = later (sym (ap (λ (b : Bool). b && every p rules) e) ∙ h) in (suc rest.0, omega (arith, rest.1), rest.2)
-    go later false e = (0, omega arith, e)
+every-slots p [] = refl
+every-slots p (slot ∷ slots) = ap (λ (b : Bool). p slot.rule && b) (every-slots p slots)
 
 -- ---- one rule of the second
 
@@ -92,26 +62,16 @@ module _ (joined : List Rule) (rule : Rule) where
   -- a rule that is not new equals one that is there
   equal-there : equals_none rule joined ≡ false → (i : ℕ) × (i < length joined) × (equal_rules (rule_at joined i) rule ≡ true)
   unfolding equals_none
-  equal-there e =
-      let fails = some-fails (differs rule) joined e in
-      (fails.0, fails.1, not-true-false (equal_rules (rule_at joined fails.0) rule) fails.2)
-    where
-      not-true-false : (b : Bool) → not b ≡ false → b ≡ true
-      not-true-false true h = refl
-      not-true-false false h = absurd (true≢false h)
+  equal-there e = let fails = fails-at (differs rule) filler joined e in (fails.0, fails.1, not-false (equal_rules (rule_at joined fails.0) rule) fails.2)
 
   -- and a new one none
   new-differs : equals_none rule joined ≡ true → (i : ℕ) → i < length joined → equal_rules (rule_at joined i) rule ≡ false
   unfolding equals_none
-  new-differs e i below = not-false-true (equal_rules (rule_at joined i) rule) (every-at (differs rule) joined e i below)
-    where
-      not-false-true : (b : Bool) → not b ≡ true → b ≡ false
-      not-false-true true h = absurd (false≢true h)
-      not-false-true false h = refl
+  new-differs e i below = not-true (equal_rules (rule_at joined i) rule) (passes-at (differs rule) filler joined e i below)
 
   differs-new : ((i : ℕ) → i < length joined → not (equal_rules (rule_at joined i) rule) ≡ true) → equals_none rule joined ≡ true
   unfolding equals_none
-  differs-new h = every-by-place (differs rule) joined h
+  differs-new h = passes-all (differs rule) filler joined h
 
   pub new-length : (length joined ≤ length (with_new joined rule)) × (length (with_new joined rule) ≤ suc (length joined))
   new-length =
@@ -134,34 +94,26 @@ module _ (joined : List Rule) (rule : Rule) where
       (found.0, omega (arith, found.1, ap length (equal-left e)), ap (λ (rules : List Rule). equal_rules (rule_at rules found.0) rule) (equal-left e) ∙ found.2))
       new-or-equal
 
-  -- a test that passes at the joined ones and at it passes at all after it, and the other way
-  module _ (p : Rule → Bool) (accepted : every rule_accepted joined ≡ true) (rule-accepted : rule_accepted rule ≡ true) where
-    every-new : every p (with_new joined rule) ≡ (every p joined && p rule)
-    every-new = ⊎_elim new equal new-or-equal
+  module _ (accepted : every rule_accepted joined ≡ true) (rule-accepted : rule_accepted rule ≡ true) where
+    -- a test that passes at the joined ones and at it passes at all after it, and the other way
+    every-new : (p : Rule → Bool) → every p (with_new joined rule) ≡ (every p joined && p rule)
+    every-new p = ⊎_elim new equal new-or-equal
       where
         new : equals_none rule joined ≡ true → every p (with_new joined rule) ≡ (every p joined && p rule)
-        new e =
-            ap (every p) (new-taken e)
-            ∙ same_test (every p (joined ++ rule ∷ [])) (every p joined && p rule)
-            (λ h. both_true (every p joined) (p rule) (every_front p joined (rule ∷ []) h) (sym (every_one p rule) ∙ every_rest p joined (rule ∷ []) h))
-            (λ h. every_append p joined (rule ∷ []) (left-true (every p joined) (p rule) h) (every_one p rule ∙ right-true (every p joined) (p rule) h))
+        new e = ap (every p) (new-taken e) ∙ every-append p joined (rule ∷ []) ∙ ap (λ (b : Bool). every p joined && b) (every_one p rule)
 
         equal : equals_none rule joined ≡ false → every p (with_new joined rule) ≡ (every p joined && p rule)
         equal e =
             let found = equal-there e in
             let same : rule_at joined found.0 ≡ rule =
-            equal-same (rule_at joined found.0) rule (every-at rule_accepted joined accepted found.0 found.1) rule-accepted found.2 in
+            equal-same (rule_at joined found.0) rule (passes-at rule_accepted filler joined accepted found.0 found.1) rule-accepted found.2 in
             ap (every p) (equal-left e)
             ∙ same_test (every p joined) (every p joined && p rule)
-            (λ h. both_true (every p joined) (p rule) h (ap p (sym same) ∙ every-at p joined h found.0 found.1))
+            (λ h. both_true (every p joined) (p rule) h (ap p (sym same) ∙ passes-at p filler joined h found.0 found.1))
             (λ h. left-true (every p joined) (p rule) h)
 
     new-accepted : every rule_accepted (with_new joined rule) ≡ true
-    new-accepted =
-        ⊎_elim
-        (λ e. ap (every rule_accepted) (new-taken e) ∙ every_append rule_accepted joined (rule ∷ []) accepted (every_one rule_accepted rule ∙ rule-accepted))
-        (λ e. ap (every rule_accepted) (equal-left e) ∙ accepted)
-        new-or-equal
+    new-accepted = every-new rule_accepted ∙ both_true (every rule_accepted joined) (rule_accepted rule) accepted rule-accepted
 
 -- ---- all rules of the second
 
@@ -211,8 +163,8 @@ every-joined p joined [] accepted rules-accepted = go (every p joined)
 every-joined p joined (rule ∷ rules) accepted rules-accepted =
     let rule-accepted = left-true (rule_accepted rule) (every rule_accepted rules) rules-accepted in
     let rest-accepted = right-true (rule_accepted rule) (every rule_accepted rules) rules-accepted in
-    every-joined p (with_new joined rule) rules (new-accepted joined rule p accepted rule-accepted) rest-accepted
-    ∙ ap (λ (b : Bool). b && every p rules) (every-new joined rule p accepted rule-accepted)
+    every-joined p (with_new joined rule) rules (new-accepted joined rule accepted rule-accepted) rest-accepted
+    ∙ ap (λ (b : Bool). b && every p rules) (every-new joined rule accepted rule-accepted p)
     ∙ go (every p joined) (p rule) (every p rules)
   where
     go : (a b c : Bool) → ((a && b) && c) ≡ (a && (b && c))

@@ -1,7 +1,7 @@
 -- 2026-07: "The joined list is the first, then in turn each rule of the second that, their rule numbers aside, equals none already in the
 -- joined list, renumbered." What follows of it is stated in Claims.antt.
 -- Assumes nothing.
-use Rattle.std.specs.Prelude.{◌≡◌, Bool, true, cond, not, ◌&&◌, List, [], ◌∷◌, ◌++◌, ℕ, suc, length, get_or, eqb, ltb}
+use Rattle.std.specs.Prelude.{◌≡◌, Result, Ok, Err, Bool, true, cond, not, ◌&&◌, List, [], ◌∷◌, ◌++◌, ℕ, suc, length, get_or, eqb, ltb, Option, Some, None}
 use Rattle.sets.specs.Sets.{all}
 use Rattle.rules.specs.Acceptance.{right_at, every, rules_of, list_accepted}
 use Rattle.rules.specs.Breach.{first_broken}
@@ -9,15 +9,14 @@ use Rattle.rules.specs.declared.families.Rule.{Rule}
 use Rattle.rules.specs.declared.rights.Right.{Right}
 use Rattle.rules.specs.declared.rights.Right.TheVariants.{Unstated, Permission}
 use Rattle.rules.specs.declared.rights.RightSlot.{RightSlot}
-use Rattle.rules.specs.declared.tests.Tested.{Tested}
-use Rattle.rules.specs.declared.tests.Tested.TheVariants.{Kept, Broken}
 use Rattle.rules.specs.declared.lists.RuleList.{RuleList}
 use Rattle.rule_text.specs.Lines.{line_of}
 use Rattle.rule_text.specs.Reading.{right_slot, no_rights, list_of}
 use Rattle.rule_text.specs.declared.lines.Line.{Line}
 use Rattle.enforcement.specs.Plain.{obeys}
 use Rattle.enforcement.specs.declared.states.State.{State}
-use Rattle.joining.specs.declared.lists.Joined.{Joined}
+use Rattle.joining.specs.declared.refusals.Refusal.{Refusal}
+use Rattle.joining.specs.declared.refusals.Refusal.TheVariants.{NotAccepted, RightsDiffer, TooMany, NoRoom}
 
 -- ---- the rules
 
@@ -71,10 +70,17 @@ rights_agree (Permission p) Unstated = true
 rights_agree (Permission p) (Permission q) = eqb p q
 
 -- the first kind of which they do not
-abbrev pub rights_tested : List RightSlot → List RightSlot → Tested
+abbrev pub rights_tested : List RightSlot → List RightSlot → Option ℕ
 rights_tested first second = first_broken 6 (λ kind. rights_agree (right_at first kind) (right_at second kind))
 
 -- ---- the list
+
+-- 0, 0 and the joined list; or the refusal's number and place and the empty list. The place is for 58 the kind, counted from 0, for 57 the
+-- number that the rule too many has in the second list, else 0
+pub record Joined : Type 0 where
+  pub number : ℕ
+  pub place : ℕ
+  pub list : RuleList
 
 -- which rule of the second, the next of which is its rule n, is one too many after the rules joined so far; 0 where none is
 unfoldable pub too_many_at : ℕ → List Rule → List Rule → ℕ
@@ -92,9 +98,26 @@ rules_joined n rights joined rules =
     (refused_join 57 (too_many_at n joined rules))
     (record { number = 0; place = 0; list = list_of rights (joined_rules joined rules) })
 
-abbrev pub joined_under : Tested → RuleList → RuleList → Joined
-joined_under Kept first second = rules_joined 1 (joined_rights first.rights second.rights) (rules_of first) (rules_of second)
-joined_under (Broken kind) first second = refused_join 58 kind
+abbrev pub number_of : Refusal → ℕ
+number_of NotAccepted = 40
+number_of (RightsDiffer kind) = 58
+number_of (TooMany rule) = 57
+number_of (NoRoom rules) = 18
+
+abbrev pub place_of : Refusal → ℕ
+place_of NotAccepted = 0
+place_of (RightsDiffer kind) = kind
+place_of (TooMany rule) = rule
+place_of (NoRoom rules) = rules
+
+-- what the code returns, by the number of each refusal
+abbrev pub by_number : Result RuleList Refusal → Joined
+by_number (Ok list) = record { number = 0; place = 0; list = list }
+by_number (Err refusal) = refused_join (number_of refusal) (place_of refusal)
+
+abbrev pub joined_under : Option ℕ → RuleList → RuleList → Joined
+joined_under None first second = rules_joined 1 (joined_rights first.rights second.rights) (rules_of first) (rules_of second)
+joined_under (Some kind) first second = refused_join 58 kind
 
 -- "order 40, 58, 57"
 unfoldable pub join_of : RuleList → RuleList → Joined

@@ -4,8 +4,10 @@
 mod equality;
 mod lent;
 mod lists;
+mod refusals;
 mod right_lines;
 
 pub use equality::equal_rules;
 pub use lent::{JoinedInto, join_into};
-pub use lists::{Joined, join};
+pub use lists::join;
+pub use refusals::Refusal;

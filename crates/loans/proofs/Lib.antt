@@ -3,6 +3,6 @@ pub mod Keeping
 pub mod Order
 pub mod Holding
 pub mod Storing
-pub mod Remaining
+pub mod Turns
 pub mod Inserting
 pub mod Unaccepted

@@ -5,7 +5,10 @@ use mathlib.Core.List.{List, [], ◌∷◌, ◌++◌, append-nil, append_assoc}
 use Prim.Native.Nat.{ℕ, zero, suc, ◌≤◌}
 use native.Mathlib.Omega.{arith}
 use lib.ListN.{length, take, set, replicate, length-append}
-use Rattle.loans.specs.Loans.{running, no_loan, no_loans, stored}
+use mathlib.Core.Bool.{Bool}
+use native.Mathlib.Nat.{le_trans}
+use Rattle.loans.specs.Loans.{running, no_loan, no_loans, kept_loans, stored}
+use Rattle.loans.proofs.Keeping.{kept-length, running-length}
 use Rattle.loans.specs.Meant.{pushed, pushed_all}
 use Rattle.loans.specs.declared.Loan.{Loan}
 use Rattle.loans.specs.declared.Loans.{Loans}
@@ -56,6 +59,11 @@ pub count-stored : (l : List Loan) → (stored l).count ≡ length l
 unfolding stored
 count-stored l = refl
 
+-- those of an array's that pass a test are not more than its entries
+pub kept-few : (test : Loan → Bool) (loans : Loans) → (stored (kept_loans test (running loans))).count ≤ length loans.entries
+unfolding stored
+kept-few test loans = le_trans (kept-length test (running loans)) (running-length loans)
+
 -- up to 32 loans are read as they were put in
 pub running-stored : (l : List Loan) → length l ≤ 32 → running (stored l) ≡ l
 running-stored l h = ap₂ (λ (n : ℕ) (e : List Loan). take n e) (count-stored l) (entries-filled l) ∙ filled-read 32 l h
@@ -83,3 +91,5 @@ unfolding pushed_all
 pushed-all-stored l [] = ap stored (sym (append-nil l))
 pushed-all-stored l (loan ∷ more) =
     ap (λ (loans : Loans). pushed_all loans more) (pushed-stored l loan) ∙ pushed-all-stored (l ++ (loan ∷ [])) more ∙ ap stored (append_assoc l (loan ∷ []) more)
+
+pub ruleset stored_rules = (stored-none, pushed-stored, pushed-all-stored, kept-few, running-length, count-stored)

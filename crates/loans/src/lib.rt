@@ -1,17 +1,17 @@
 // Request 2026-01: roles on loan until a set time, and which roles are held with them.
 #![tactic(auto)]
 
-ghost use Rattle.std.specs.Prelude.{◌≡◌, ◌≤◌, leb};
+ghost use Rattle.std.specs.Prelude.{◌≡◌, ◌≤◌, ◌+◌, length, leb};
 ghost use Rattle.rules.specs.Families.{has_role};
 ghost use Rattle.loans.specs.Loans.{key, running, no_loans, stored, is_named, loan_in_range, loans_accepted, some_loan, kept_loans, inserted, held_with};
 ghost use Rattle.loans.specs.Meant.{meant, pushed, pushed_all};
 
 use calendar::Term;
-use sets::word32;
+use sets::Set;
 use steps::Step;
 
 // A role that one user is assigned and another has until a time. It has 8 bytes: a state goes by value.
-#[derive(Clone, Copy)]
+#[derive(Clone, Copy, Debug, PartialEq, Eq)]
 pub struct Loan {
     pub until: u32,
     pub lender: u8,
@@ -20,14 +20,14 @@ pub struct Loan {
 }
 
 // The first `count` entries, in ascending order of lender, borrower and role. Entries past them are not looked at.
-#[derive(Clone, Copy)]
+#[derive(Clone, Copy, Debug)]
 pub struct Loans {
     pub entries: [Loan; 32],
     pub count: usize,
 }
 
 // Which loans are meant.
-#[derive(Clone, Copy)]
+#[derive(Clone, Copy, Debug, PartialEq, Eq)]
 pub enum Which {
     // of a role to a user
     Borrowed {
@@ -81,136 +81,117 @@ impl Loans {
         }
     }
 
-    // 40 does not refuse them: at most 32, each in range, in ascending order, at most one for the same lender, borrower and role.
-    pub fn is_accepted(self) -> bool
-        ensures { result ≡ loans_accepted self }
+    // The loans that run; with a count past the last entry, all entries.
+    pub fn running(&self) -> &[Loan]
+        ensures { result.now ≡ running self.now }
     {
-        let count = self.count;
-        if Loans::MOST < count {
+        &self.entries[..self.count.min(self.entries.len())]
+    }
+
+    // 40 does not refuse them: at most 32, each in range, in ascending order, at most one for the same lender, borrower and role.
+    #[tactic(auto, using(crate::proofs::Turns::accepted_turns), unfolding(crate::specs::Loans::loans_accepted))]
+    pub fn is_accepted(&self) -> bool
+        ensures { result ≡ loans_accepted self.now }
+    {
+        if Loans::MOST < self.count {
             return false;
         }
         // The least key that the next loan may have.
-        let mut least: usize = 0;
-        let mut i: usize = 0;
-        'loans: loop {
-            if i == count {
-                break 'loans true;
-            }
-            let loan = self.entries[i];
+        let mut least = 0;
+        for &loan in self.running() {
             let key = key_of(loan);
-            if !(loan_in_range(loan) & (least <= key)) {
-                break 'loans false;
+            if !loan_in_range(loan) || key < least {
+                return false;
             }
             least = key + 1;
-            i += 1;
         }
+        true
     }
 
     // 32 loans run.
-    pub fn is_full(self) -> bool
-        ensures { result ≡ leb 32 self.count }
+    pub fn is_full(&self) -> bool
+        ensures { result ≡ leb 32 self.now.count }
     {
         Loans::MOST <= self.count
     }
 
     // One of them is meant.
-    pub fn has_some(self, which: Which) -> bool
-        ensures { result ≡ some_loan (meant which) (running self) }
+    pub fn has_some(&self, which: Which) -> bool
+        ensures { result ≡ some_loan (meant which) (running self.now) }
     {
-        let mut i: usize = 0;
-        'loans: loop {
-            if !((i < self.count) & (i < Loans::MOST)) {
-                break 'loans false;
-            }
-            let loan = self.entries[i];
-            if is_meant(loan, which) {
-                break 'loans true;
-            }
-            i += 1;
-        }
+        self.running().iter().any(|loan| is_meant(*loan, which))
     }
 
     // Those that are meant.
-    pub fn kept(self, which: Which) -> Loans
-        ensures { result ≡ stored (kept_loans (meant which) (running self)) }
+    #[tactic(auto, using(crate::proofs::Storing::stored_rules))]
+    pub fn kept(&self, which: Which) -> Loans
+        ensures { result ≡ stored (kept_loans (meant which) (running self.now)) }
     {
-        let start = Loans::none();
-        if self.count == 0 {
-            return start;
-        }
-        start.gathered(self, which)
+        let mut kept = Loans::none();
+        kept.gather(self.running(), which);
+        kept
     }
 
     // With one more, in its place.
-    pub fn with(self, loan: Loan) -> Loans
-        ensures { result ≡ stored (inserted loan (running self)) }
+    #[tactic(auto, using(crate::proofs::Storing::stored_rules), unfolding(crate::specs::Meant::pushed))]
+    pub fn with(&self, loan: Loan) -> Loans
+        ensures { result ≡ stored (inserted loan (running self.now)) }
     {
         let key = key_of(loan);
-        let before = self.kept(Which::Before { key });
-        let more = before.followed_by(loan);
-        more.gathered(self, Which::After { key })
+        let mut more = self.kept(Which::Before { key });
+        more.push(loan);
+        more.gather(self.running(), Which::After { key });
+        more
     }
 
     // The roles that users hold: those that they are assigned, and those that they have on loan.
-    pub fn held(self, assigned: [u32; 64]) -> [u32; 64]
-        ensures { result ≡ held_with assigned (running self) }
+    #[tactic(auto, using(crate::proofs::Turns::held_turns))]
+    pub fn held(&self, assigned: &[u32; 64]) -> [u32; 64]
+        ensures { result ≡ held_with assigned.now (running self.now) }
     {
-        let mut held = assigned;
-        let mut i: usize = 0;
-        while (i < self.count) & (i < Loans::MOST) {
-            let loan = self.entries[i];
+        let mut held = *assigned;
+        for loan in self.running() {
+            // By its index: with `get_mut` the proof did not close.
             let user = loan.borrower as usize;
             if user < Step::USERS {
-                let roles = held[user];
-                held[user] = word32::with(roles, loan.role as usize);
+                held[user] = held[user].with(loan.role as usize);
             }
-            i += 1;
         }
         held
     }
 
     // A user holds a role: he is assigned it or has it on loan. Where he is assigned it or there is no loan, no array of held roles is made.
-    pub fn is_held(self, assigned: [u32; 64], user: usize, role: usize) -> bool
-        ensures { result ≡ has_role (held_with assigned (running self)) user role }
+    #[tactic(auto, using(crate::proofs::Holding::held_rules))]
+    pub fn is_held(&self, assigned: &[u32; 64], user: usize, role: usize) -> bool
+        ensures { result ≡ has_role (held_with assigned.now (running self.now)) user role }
     {
-        if has_role(assigned, user, role) {
-            return true;
-        }
-        if self.count == 0 {
-            return false;
-        }
-        let held = self.held(assigned);
-        has_role(held, user, role)
+        has_role(assigned, user, role)
+            || (self.count != 0 && has_role(&self.held(assigned), user, role))
     }
 
-    // And after them those of other loans that are meant.
-    fn gathered(self, others: Loans, which: Which) -> Loans
-        requires { self.count ≤ 64 }
-        ensures { result ≡ pushed_all self (kept_loans (meant which) (running others)) }
+    // Puts those of other loans that are meant after these.
+    #[tactic(auto, using(crate::proofs::Turns::gather_turns), unfolding(crate::specs::Meant::pushed))]
+    fn gather(&mut self, others: &[Loan], which: Which)
+        requires { self.old.count + length others.now ≤ 96 }
+        ensures { self.new ≡ pushed_all self.old (kept_loans (meant which) others.now) }
     {
-        let mut more = self;
-        let mut i: usize = 0;
-        while (i < others.count) & (i < Loans::MOST) {
-            let loan = others.entries[i];
-            if is_meant(loan, which) {
-                more = more.followed_by(loan);
+        for loan in others {
+            if is_meant(*loan, which) {
+                self.push(*loan);
             }
-            i += 1;
         }
-        more
     }
 
-    // And after them one more; a place past the last is not there.
-    fn followed_by(mut self, loan: Loan) -> Loans
-        requires { self.count ≤ 96 }
-        ensures { result ≡ pushed self loan }
+    // Puts one more after these; a place past the last is not there.
+    #[tactic(auto, using(crate::proofs::Turns::entries_past), unfolding(crate::specs::Meant::pushed))]
+    fn push(&mut self, loan: Loan)
+        requires { self.old.count ≤ 96 }
+        ensures { self.new ≡ pushed self.old loan }
     {
-        let count = self.count;
-        if count < Loans::MOST {
-            self.entries[count] = loan;
+        if self.count < self.entries.len() {
+            self.entries[self.count] = loan;
         }
-        self.count = count + 1;
-        self
+        self.count += 1;
     }
 }
 
@@ -222,24 +203,23 @@ pub fn has_ended(until: u64, time: u64) -> bool
 }
 
 // A role is in the set of a user; one past the last has none.
-fn has_role(roles: [u32; 64], user: usize, role: usize) -> bool
-    ensures { result ≡ has_role roles user role }
+#[tactic(auto, using(crate::proofs::Holding::no_roles_past))]
+pub fn has_role(roles: &[u32; 64], user: usize, role: usize) -> bool
+    ensures { result ≡ has_role roles.now user role }
 {
-    if Step::USERS <= user {
-        return false;
-    }
-    word32::member(roles[user], role)
+    roles.get(user).is_some_and(|roles| roles.contains(role))
 }
 
+#[tactic(auto, unfolding(crate::specs::Meant::meant))]
 fn is_meant(loan: Loan, which: Which) -> bool
     ensures { result ≡ meant which loan }
 {
     match which {
         Which::Borrowed { borrower, role } => {
-            (loan.borrower as usize == borrower) & (loan.role as usize == role)
+            loan.borrower as usize == borrower && loan.role as usize == role
         }
         Which::LentOut { lender, role } => {
-            (loan.lender as usize == lender) & (loan.role as usize == role)
+            loan.lender as usize == lender && loan.role as usize == role
         }
         Which::Named {
             lender,
@@ -260,21 +240,25 @@ fn is_meant(loan: Loan, which: Which) -> bool
 fn is_named(loan: Loan, lender: usize, borrower: usize, role: usize) -> bool
     ensures { result ≡ is_named lender borrower role loan }
 {
-    (loan.lender as usize == lender)
-        & ((loan.borrower as usize == borrower) & (loan.role as usize == role))
+    loan.lender as usize == lender
+        && loan.borrower as usize == borrower
+        && loan.role as usize == role
 }
 
 // What loans are ordered by.
+#[tactic(auto, unfolding(crate::specs::Loans::key))]
 fn key_of(loan: Loan) -> usize
     ensures { result ≡ key loan }
 {
     (loan.lender as usize * 64 + loan.borrower as usize) * 32 + loan.role as usize
 }
 
+#[tactic(auto, unfolding(crate::specs::Loans::loan_in_range))]
 fn loan_in_range(loan: Loan) -> bool
     ensures { result ≡ loan_in_range loan }
 {
-    ((loan.lender as usize) < Step::USERS)
-        & (((loan.borrower as usize) < Step::USERS)
-            & (((loan.role as usize) < Step::ROLES) & (loan.until as u64 <= Term::LAST_TIME)))
+    (loan.lender as usize) < Step::USERS
+        && (loan.borrower as usize) < Step::USERS
+        && (loan.role as usize) < Step::ROLES
+        && loan.until as u64 <= Term::LAST_TIME
 }

@@ -1,12 +1,11 @@
 -- What a C function returns, what it fills in, and what it leaves in a lent space. Assumes nothing.
 use Rattle.std.specs.Prelude.{ℕ, ◌≡◌, cond, List, [], ◌∷◌, length, eqb}
 use Rattle.std.proofs.lemmas.List.Edits.{sets}
-use Rattle.forms.specs.declared.writing.Written.{Written}
-use Rattle.forms.specs.declared.writing.Written.TheVariants.{Length, Refused}
-use Rattle.rule_text.specs.declared.reading.LoadedRules.{LoadedRules}
+use Rattle.std.specs.Prelude.{Result, Ok, Err}
+use Rattle.rule_text.specs.Reading.{LoadedRules}
 use Rattle.texts.specs.SavedRuns.{Texts, holding, refused_in, refused_report, written_report, lent_to, SavedOutcome, answers_of, state_of, run_report}
 use Rattle.texts.specs.declared.saved_runs.Text.{Text}
-use Rattle.texts.specs.declared.saved_runs.Report.{Report}
+use Rattle.texts.specs.SavedRuns.{Report}
 
 -- 2.4.0
 abbrev pub version : ℕ
@@ -43,9 +42,9 @@ pub record Handed (outcome : SavedOutcome) (answers next : List ℕ) (number : �
 -- ---- what is reported
 
 -- a response that was written, or its 18 with the length that is needed
-abbrev pub response_report : Written → ℕ → Report
-response_report (Length n) needed = written_report n 0
-response_report (Refused number) needed = refused_report Text.OutputSpace number needed
+abbrev pub response_report : Result ℕ ℕ → ℕ → Report
+response_report (Ok n) needed = written_report n 0
+response_report (Err number) needed = refused_report Text.OutputSpace number needed
 
 -- a text that was read, or its refusal
 abbrev pub read_report : Text → ℕ → ℕ → Report

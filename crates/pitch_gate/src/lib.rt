@@ -5,22 +5,29 @@
 
 ghost use Rattle.std.specs.Prelude.{◌≡◌, length};
 ghost use Rattle.enforcement.specs.States.{fresh};
+ghost use Rattle.forms.specs.Refusals.{numbered, write_number};
 ghost use Rattle.rule_text.specs.Reading.{read_lines, loaded_of};
 ghost use Rattle.rule_text.specs.Writing.{text_of};
 ghost use Rattle.policy_text.specs.Reading.{policies_read};
 ghost use Rattle.policy_text.specs.Writing.{policies_text};
 ghost use Rattle.state_text.specs.Saving.{saved_text};
 ghost use Rattle.texts.specs.Response.{response_of};
-ghost use Rattle.texts.specs.SavedRuns.{load_texts, rules_in, output_report, rules_copy_report, saved_report, state_in, copy_report, saved_outcome};
+ghost use Rattle.texts.specs.SavedRuns.{load_texts, rules_in, report_of, output_report, rules_copy_report, saved_report, state_in, copy_report, saved_outcome};
 ghost use Rattle.texts.specs.Policies.{rules_from_report, policies_from_report};
 ghost use Rattle.texts.specs.JoinedTexts.{joined_with, join_report};
-ghost use Rattle.pitch_gate.specs.Reports.{version, text_number, Told, Given, Handed, response_report, read_report, rules_report, texts_report};
+ghost use Rattle.pitch_gate.specs.Reports.{version, text_number, Told, Given, Handed, response_report, rules_report, texts_report};
 
-use forms::Written;
-use texts::{Report, Text};
+use forms::WriteRefusal;
+use texts::{Refused, Text, Written};
 
 // 10,000 for each major version, 100 for each minor one and 1 for each correction: this is 2.4.0.
 const VERSION: u64 = 20_400;
+
+// What is only read is not written.
+const NOTHING: Written = Written {
+    output: 0,
+    state: 0,
+};
 
 // The version of the library that is linked.
 #[unsafe(no_mangle)]
@@ -46,8 +53,10 @@ pub extern "C" fn pitch_gate_respond(input: &[u8], output: &mut [u8], report: &m
 pub extern "C" fn pitch_gate_check_rules(rules: &[u8], report: &mut [u64; 4]) -> u64
     ensures { Told (rules_report (loaded_of (read_lines rules.now))) result report.old report.new }
 {
-    let read = rule_text::read_rules(rules);
-    tell(read_report(Text::Rules, read.number, read.line), report)
+    match rule_text::read_rules(rules) {
+        Ok(_) => tell(Ok(NOTHING), report),
+        Err(bad) => tell(Err(Refused::of_line(Text::Rules, bad)), report),
+    }
 }
 
 // A rule list, read and written again.
@@ -63,9 +72,10 @@ pub extern "C" fn pitch_gate_copy_rules(rules: &[u8], copy: &mut [u8], report: &
 pub extern "C" fn pitch_gate_check_state(rules: &[u8], state: &[u8], report: &mut [u64; 4]) -> u64
     ensures { Told (texts_report (load_texts rules.now state.now)) result report.old report.new }
 {
-    let read = texts::load(rules, state);
-    let text = read.text;
-    tell(read_report(text, read.number, read.place), report)
+    match texts::load(rules, state).check() {
+        Ok(()) => tell(Ok(NOTHING), report),
+        Err(refused) => tell(Err(refused), report),
+    }
 }
 
 // A saved state, read under the rules and written again.
@@ -144,38 +154,42 @@ pub extern "C" fn pitch_gate_run_steps(
 // ---- reports
 
 // What was written of the response to an input, or its 18 with the length that is needed.
-fn response_report(written: Written, input: &[u8]) -> Report
-    ensures { result ≡ response_report written (length (response_of input.now)) }
+fn response_report(written: Result<usize, WriteRefusal>, input: &[u8]) -> Result<Written, Refused>
+    ensures { report_of result ≡ response_report (numbered write_number written) (length (response_of input.now)) }
 {
     match written {
-        Written::Length(length) => texts::written_report(length, 0),
-        Written::Refused(number) => {
-            texts::refused_report(Text::OutputSpace, number, texts::response_length(input))
+        Ok(output) => Ok(Written { output, state: 0 }),
+        Err(refusal) => Err(Refused {
+            text: Text::OutputSpace,
+            number: refusal.number(),
+            place: texts::response_length(input),
+        }),
+    }
+}
+
+// The number is returned, the rest goes to the four lent numbers.
+fn tell(told: Result<Written, Refused>, report: &mut [u64; 4]) -> u64
+    ensures { Told (report_of told) result report.old report.new }
+{
+    match told {
+        Ok(written) => {
+            *report = [
+                text_number(Text::None),
+                0,
+                written.output as u64,
+                written.state as u64,
+            ];
+            0
+        }
+        Err(refused) => {
+            *report = [text_number(refused.text), refused.place as u64, 0, 0];
+            refused.number
         }
     }
 }
 
-fn read_report(text: Text, number: u64, place: usize) -> Report
-    ensures { result ≡ read_report text number place }
-{
-    if number == 0 {
-        return texts::written_report(0, 0);
-    }
-    texts::refused_report(text, number, place)
-}
-
-// The number is returned, the rest goes to the four lent numbers.
-fn tell(told: Report, report: &mut [u64; 4]) -> u64
-    ensures { Told told result report.old report.new }
-{
-    let text = told.text;
-    report[0] = text_number(text);
-    report[1] = told.place as u64;
-    report[2] = told.output as u64;
-    report[3] = told.state as u64;
-    told.number
-}
-
+// The numbers of the C interface.
+#[tactic(auto, unfolding(crate::specs::Reports::text_number))]
 fn text_number(text: Text) -> u64
     ensures { result ≡ text_number text }
 {

@@ -1,18 +1,16 @@
 -- A box and a point known to an error: what holds of the points of the error circle, each at a scale k, for the two sides of one direction.
 -- Assumes nothing.
 use mathlib.Core.Path.{◌≡◌, refl, ap}
-use mathlib.Core.Bool.{Bool, true, false, cond, ◌&&◌, and-eq-true_iff}
+use mathlib.Core.Bool.{Bool, true, false, cond}
 use mathlib.Core.Logic.{⊎_elim}
 use Prim.Native.Nat.{ℕ, suc, ◌+◌, ◌*◌, ◌≤◌}
 use native.Mathlib.Nat.{mul-le-mul, le_refl}
 use native.Mathlib.Omega.{arith}
-use lib.Dec.{leb}
-use borrow.Author.Tests.{leb-true, le-leb}
 use lib.IntN.{ℤ, pos, negsuc, neg_ℤ, nat_abs, ◌+ℤ◌, ◌-ℤ◌, ◌*ℤ◌}
 use lib.Signed.{le_z, ◌≤ℤ◌, ◌<ℤ◌, ≤ℤ_refl}
 use Rattle.places.specs.Places.{beyond}
 use Rattle.places.proofs.Integers.{above, below, one_side, size, ordered, to-order, ordered-strictly, sum, difference, above-times, below-times, difference-scaled, sum-scaled, size_none, size-swapped}
-use Rattle.places.proofs.Orders.{above_ℤ, at-most_ℤ, same_test}
+use Rattle.places.proofs.Orders.{above_ℤ, at-most_ℤ}
 use Rattle.places.proofs.Circles.{moved}
 
 -- ---- e or more within a side
@@ -20,28 +18,6 @@ use Rattle.places.proofs.Circles.{moved}
 -- low + e ≤ z
 room : (low z : ℤ) (e : ℕ) → (low +ℤ pos e) ≤ℤ z → above low + (e + below z) ≤ above z + below low
 room low z e h = omega (arith, ordered (low +ℤ pos e) z h, sum low (pos e))
-
--- the same as the code tests it
-pub side-tests : (low z : ℤ) (e : ℕ) → (le_z low z && leb e (nat_abs (z -ℤ low))) ≡ le_z (low +ℤ pos e) z
-side-tests low z e = same_test (le_z low z && leb e (nat_abs (z -ℤ low))) (le_z (low +ℤ pos e) z) to from
-  where
-    to : (le_z low z && leb e (nat_abs (z -ℤ low))) ≡ true → le_z (low +ℤ pos e) z ≡ true
-    to h =
-        let parts = (and-eq-true_iff (le_z low z) (leb e (nat_abs (z -ℤ low)))).0 h in
-        let order = ordered low z ((at-most_ℤ low z).0 parts.0) in
-        let most = leb-true e (nat_abs (z -ℤ low)) parts.1 in
-        (at-most_ℤ (low +ℤ pos e) z).1
-        (to-order (low +ℤ pos e) z
-        (⊎_elim
-        (λ s. omega (arith, sum low (pos e), difference z low, size (z -ℤ low)))
-        (λ s. omega (arith, sum low (pos e), difference z low, size (z -ℤ low)))
-        (one_side (z -ℤ low))))
-
-    from : le_z (low +ℤ pos e) z ≡ true → (le_z low z && leb e (nat_abs (z -ℤ low))) ≡ true
-    from h =
-        let order = room low z e ((at-most_ℤ (low +ℤ pos e) z).0 h) in
-        (and-eq-true_iff (le_z low z) (leb e (nat_abs (z -ℤ low)))).1
-        ((at-most_ℤ low z).1 (to-order low z (omega arith)), le-leb e (nat_abs (z -ℤ low)) (omega (arith, difference z low, size (z -ℤ low))))
 
 -- no point of the error circle is past the side
 pub low-every : (low z z' : ℤ) (e k : ℕ) → (low +ℤ pos e) ≤ℤ z → nat_abs (z' -ℤ pos k *ℤ z) ≤ k * e → (pos k *ℤ low) ≤ℤ z'
@@ -67,6 +43,7 @@ high-passed z high e short h =
 
 -- no point between the sides is nearer
 pub beyond-least : (low high z z' : ℤ) (k : ℕ) → (pos k *ℤ low) ≤ℤ z' → z' ≤ℤ (pos k *ℤ high) → k * beyond low high z ≤ nat_abs (z' -ℤ pos k *ℤ z)
+unfolding beyond
 beyond-least low high z z' k from to = by-sides (le_z low z) (le_z z high) refl refl
   where
     past-high : high <ℤ z → k * nat_abs (z -ℤ high) ≤ nat_abs (z' -ℤ pos k *ℤ z)
@@ -105,6 +82,7 @@ pub record Nearest (low high z : ℤ) : Type 0 where
   pub far : nat_abs (z -ℤ z') ≡ beyond low high z
 
 pub nearest : (low high z : ℤ) → low ≤ℤ high → Nearest low high z
+unfolding beyond
 nearest low high z sides = by-sides (le_z low z) (le_z z high) refl refl
   where
     by-sides : (s t : Bool) → le_z low z ≡ s → le_z z high ≡ t → Nearest low high z

@@ -82,7 +82,7 @@ flip h = (h.1, h.0)
 
 -- A point is surely inside a circle exactly where e ≤ q and d² ≤ (q - e)², and a box exactly where it is e or more within all four sides.
 pub surely-inside-means : (shape : Shape) (point : Point) → (surely_inside shape point ≡ true) ↔ SurelyInside shape point
-unfolding surely_inside inside_circle inside_box
+unfolding surely_inside inside_circle inside_box within_by
 surely-inside-means (Circle x y q) point =
     let e = point.error in
     let dx = point.x -ℤ x in

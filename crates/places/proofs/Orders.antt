@@ -5,10 +5,11 @@ use mathlib.Core.Bool.{Bool, true, false, ◌&&◌, not, true≢false, and-eq-tr
 use mathlib.Core.Logic.Iff
 use mathlib.Core.Logic.{◌↔◌, ◌⊎◌, inl, inr, ⊎_elim}
 use Prim.Native.Nat.{ℕ, ◌≤◌, ◌<◌}
-use borrow.Author.Tests.{le-leb, lt-leb, leb-true, leb-false, lt-ltb, le-ltb, ltb-true, ltb-false}
+use borrow.Author.Tests.{le-leb, lt-leb, leb-true, leb-false, lt-ltb, le-ltb, ltb-true}
 use lib.Dec.{T, leb, ltb}
 use lib.IntN.{ℤ, pos, negsuc}
 use lib.Signed.{le_z, lt_z, ◌≤ℤ◌, ◌<ℤ◌}
+use Rattle.places.proofs.Signed.{read_back}
 
 pub at_most : (a b : ℕ) → (leb a b ≡ true) ↔ (a ≤ b)
 at_most a b = (leb-true a b, le-leb a b)
@@ -48,9 +49,6 @@ same_test true b to from = sym (to refl)
 same_test false true to from = from refl
 same_test false false to from = refl
 
-pub left-true : (a b : Bool) → a && b ≡ true → a ≡ true
-left-true a b h = ((and-eq-true_iff a b).0 h).0
-
 pub more-not-at-most : (a b : ℕ) → not (leb a b) ≡ ltb b a
 more-not-at-most a b = by-test (leb a b) refl
   where
@@ -58,16 +56,4 @@ more-not-at-most a b = by-test (leb a b) refl
     by-test true e = let l = leb-true a b e in sym (le-ltb b a l)
     by-test false e = sym (lt-ltb b a (leb-false a b e))
 
-pub at-most-not-less : (a b : ℤ) → le_z b a ≡ not (lt_z a b)
-at-most-not-less (pos a) (pos b) = by-test (ltb a b) refl
-  where
-    by-test : (t : Bool) → ltb a b ≡ t → leb b a ≡ not t
-    by-test true e = lt-leb b a (ltb-true a b e)
-    by-test false e = le-leb b a (ltb-false a b e)
-at-most-not-less (pos a) (negsuc b) = refl
-at-most-not-less (negsuc a) (pos b) = refl
-at-most-not-less (negsuc a) (negsuc b) = by-test (ltb b a) refl
-  where
-    by-test : (t : Bool) → ltb b a ≡ t → leb a b ≡ not t
-    by-test true e = lt-leb a b (ltb-true b a e)
-    by-test false e = le-leb a b (ltb-false b a e)
+pub ruleset order_tests = (more-not-at-most, read_back)

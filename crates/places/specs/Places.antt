@@ -31,7 +31,7 @@ unfoldable pub outside_circle : ℤ → ℤ → ℕ → Point → Bool
 outside_circle x y q point = ltb ((q + point.error) * (q + point.error)) (squared_distance x y point)
 
 -- e or more within two sides
-abbrev pub within_by : ℕ → ℤ → ℤ → ℤ → Bool
+unfoldable pub within_by : ℕ → ℤ → ℤ → ℤ → Bool
 within_by e low high z = le_z (low +ℤ pos e) z && le_z (z +ℤ pos e) high
 
 -- 2026-04: "In a box: inside where it is e or more within all four sides"
@@ -39,7 +39,7 @@ unfoldable pub inside_box : ℤ → ℤ → ℤ → ℤ → Point → Bool
 inside_box a b c d point = within_by point.error a c point.x && within_by point.error b d point.y
 
 -- how far a coordinate lies beyond two sides: 0 between them
-abbrev pub beyond : ℤ → ℤ → ℤ → ℕ
+unfoldable pub beyond : ℤ → ℤ → ℤ → ℕ
 beyond low high z = cond (le_z low z) (cond (le_z z high) 0 (nat_abs (z -ℤ high))) (nat_abs (low -ℤ z))
 
 -- 2026-04: "outside where the squared distance to the box exceeds e² (with e = 0: where the position is not within)"

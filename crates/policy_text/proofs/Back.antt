@@ -14,7 +14,7 @@ use Rattle.rules.specs.declared.rights.RightSlot.{RightSlot}
 use Rattle.rules.specs.declared.lists.RuleList.{RuleList}
 use Rattle.rule_text.specs.Lines.{filler, list_text, right_lines, next_line}
 use Rattle.rule_text.specs.Reading.{no_rights, list_of, SameRules, loaded_of}
-use Rattle.rule_text.specs.declared.reading.LoadedRules.{LoadedRules}
+use Rattle.rule_text.specs.Reading.{LoadedRules}
 use Rattle.rule_text.proofs.Slots.{rules-of-list, list-rights, list-accepted, slots_length, list-few, accepted-most, accepted-rules, none-good, same-rules}
 use Rattle.rule_text.proofs.Loaded.{loaded-whole, loaded-bad, zero-or-some, loaded-zero, loaded-some}
 use Rattle.policy_text.specs.Lines.{policy_text}

@@ -19,8 +19,7 @@ use Rattle.rules.specs.Acceptance.{rule_in_range, rule_distinct, rule_sound, rul
 use Rattle.rules.specs.declared.families.Rule.{Rule}
 use Rattle.rule_text.specs.Reading.{rule_read}
 use Rattle.rule_text.specs.declared.reading.Parsed.{Parsed}
-use Rattle.rule_text.specs.declared.reading.LineRead.{LineRead}
-use Rattle.rule_text.specs.declared.reading.LineRead.TheVariants.{Good, Bad}
+use Rattle.std.specs.Prelude.{Result, Ok, Err}
 use Rattle.rule_text.proofs.NumberedLines.{LineStands, Language}
 use Rattle.rule_text.proofs.LineTables.{number-bounds, text_same, made-in-range, rule-line-in-range, rule-same, found-rule, text-some}
 use Rattle.policy_text.specs.Lines.{policy_forms, policy_count, policy_of, has_policy, policy_text, rule_of_policy}
@@ -38,9 +37,9 @@ Ready n text = Unit {0}
 
 -- ---- what was read has its cause
 
-abbrev Says : ℕ → List ℕ → LineRead → Type 0
-Says n text (Good entry) = LineStands policy_text passes n text entry
-Says n text (Bad number) = Cause n text number
+abbrev Says : ℕ → List ℕ → Result Parsed ℕ → Type 0
+Says n text (Ok entry) = LineStands policy_text passes n text entry
+Says n text (Err number) = Cause n text number
 
 -- what was found, where it is a form
 module _ {text : List ℕ} {f : Found} (hits : Hits policy_forms text f) where
@@ -107,8 +106,8 @@ module _ (n : ℕ) {text : List ℕ} {f : Found} (hits : Hits policy_forms text 
   by_tests : (no : Bool) → eqb f.form policy_count ≡ no → (ranged : Bool) → all_in_range (form_at policy_forms f.form) f.values ≡ ranged
       → (next : Bool) → eqb (get_or f.values 0 0) n ≡ next → (distinct : Bool) → rule_distinct (rule_of_policy f.form f.values) ≡ distinct
       → (sound : Bool) → rule_sound (rule_of_policy f.form f.values) ≡ sound
-      → Says n text (cond no (Bad 55) (cond (not ranged) (Bad 11) (cond (not next) (Bad 12) (cond (not distinct) (Bad 13) (cond (not sound) (Bad 14)
-      (Good (record { rule = rule_of_policy f.form f.values; length = f.length })))))))
+      → Says n text (cond no (Err 55) (cond (not ranged) (Err 11) (cond (not next) (Err 12) (cond (not distinct) (Err 13) (cond (not sound) (Err 14)
+      (Ok (record { rule = rule_of_policy f.form f.values; length = f.length })))))))
   by_tests true a ranged b next c distinct d sound e = outside_subset (none (eqb-true f.form policy_count a))
   by_tests false a false b next c distinct d sound e = out_of_range f.form f.values (line_at hits (in_table hits (eqb-false _ _ a))) (outside b)
   by_tests false a true b false c distinct d sound e =
@@ -138,7 +137,7 @@ module _ (n : ℕ) (text : List ℕ) (m : ℕ) (rule : Rule) (st : PolicyStands 
   in-range-there : all_in_range (form_at policy_forms (policy_of m rule).form) (policy_of m rule).values ≡ true
   in-range-there = rule-line-in-range policy-table m rule (kind-has st.kind) st.first st.last st.fits_range
 
-  decides : read_policy n text ≡ cond (not (eqb m n)) (Bad 12) (rule_read rule (length (policy_text m rule)))
+  decides : read_policy n text ≡ cond (not (eqb m n)) (Err 12) (rule_read rule (length (policy_text m rule)))
   unfolding read_policy policy_after
   decides =
       let own = policy-table.own m rule (kind-has st.kind) in
@@ -160,17 +159,17 @@ policy-says n text =
     (λ e k values st. found_none policy_forms text table-distinct (e ∙ sym table-length) k values st.rest (rw table-length st.form) st.fits st.reads)
     (λ outside m rule st. clash (ranged-there n text m rule st) outside)
 
-outside-read : (n : ℕ) (text : List ℕ) → ((k : ℕ) (values : List ℕ) → Stands text k values → ⊥) → read_policy n text ≡ Bad 55
+outside-read : (n : ℕ) (text : List ℕ) → ((k : ℕ) (values : List ℕ) → Stands text k values → ⊥) → read_policy n text ≡ Err 55
 unfolding read_policy policy_after
 outside-read n text none = by_form (eqb (found policy_forms text).form policy_count) refl
   where
-    by_form : (no : Bool) → eqb (found policy_forms text).form policy_count ≡ no → policy_after n (found policy_forms text) ≡ Bad 55
+    by_form : (no : Bool) → eqb (found policy_forms text).form policy_count ≡ no → policy_after n (found policy_forms text) ≡ Err 55
     by_form true e = rw e
     by_form false e =
         let hits = found-hits policy_forms text table-distinct in
         absurd (none (found policy_forms text).form (found policy_forms text).values (line_at hits (in_table hits (eqb-false _ _ e))))
 
-out-of-range-read : (n : ℕ) (text : List ℕ) (k : ℕ) (values : List ℕ) → Stands text k values → ((m : ℕ) (rule : Rule) → PolicyStands text m rule → ⊥) → read_policy n text ≡ Bad 11
+out-of-range-read : (n : ℕ) (text : List ℕ) (k : ℕ) (values : List ℕ) → Stands text k values → ((m : ℕ) (rule : Rule) → PolicyStands text m rule → ⊥) → read_policy n text ≡ Err 11
 out-of-range-read n text k values st none = by_read (read_policy n text) (policy-says n text)
   where
     by-cause : {number : ℕ} → Cause n text number → number ≡ 11
@@ -179,11 +178,11 @@ out-of-range-read n text k values st none = by_read (read_policy n text) (policy
     by-cause (not_next m rule there other) = absurd (none m rule there)
     by-cause (same_twice rule there same) = absurd (none n rule there)
 
-    by_read : (read : LineRead) → Says n text read → read ≡ Bad 11
-    by_read (Good entry) line = absurd (none n entry.rule (standing line))
-    by_read (Bad number) cause = ap Bad (by-cause cause)
+    by_read : (read : Result Parsed ℕ) → Says n text read → read ≡ Err 11
+    by_read (Ok entry) line = absurd (none n entry.rule (standing line))
+    by_read (Err number) cause = ap Err (by-cause cause)
 
-pub has-cause : (n : ℕ) (text : List ℕ) {number : ℕ} → Cause n text number → read_policy n text ≡ Bad number
+pub has-cause : (n : ℕ) (text : List ℕ) {number : ℕ} → Cause n text number → read_policy n text ≡ Err number
 unfolding rule_read
 has-cause n text (outside_subset none) = outside-read n text none
 has-cause n text (out_of_range k values st outside) = out-of-range-read n text k values st outside
@@ -193,14 +192,14 @@ has-cause n text (same_twice rule st same) = decides n text n rule st ∙ rw (eq
 -- ---- the laws
 
 -- where rule n is the next, a line is refused with a number exactly where it has the number's cause
-pub line_refused : (n : ℕ) (text : List ℕ) (number : ℕ) → (read_policy n text ≡ Bad number) ↔ Cause n text number
+pub line_refused : (n : ℕ) (text : List ℕ) (number : ℕ) → (read_policy n text ≡ Err number) ↔ Cause n text number
 line_refused n text number = ((λ e. subst (Says n text) e (policy-says n text)), has-cause n text)
 
 -- and is good exactly where it is the policy of an accepted rule of the five kinds
-pub line-good : (n : ℕ) (text : List ℕ) (entry : Parsed) → (read_policy n text ≡ Good entry) ↔ LineStands policy_text passes n text entry
+pub line-good : (n : ℕ) (text : List ℕ) (entry : Parsed) → (read_policy n text ≡ Ok entry) ↔ LineStands policy_text passes n text entry
 line-good n text entry = ((λ e. subst (Says n text) e (policy-says n text)), is-good)
   where
-    is-good : LineStands policy_text passes n text entry → read_policy n text ≡ Good entry
+    is-good : LineStands policy_text passes n text entry → read_policy n text ≡ Ok entry
     is-good line =
         let rule = entry.rule in
         let parts = both (rule_accepted rule) (has_policy rule) line.passed in
@@ -226,11 +225,11 @@ policy-language = record {
 
 module _ (n : ℕ) (text : List ℕ) where
   -- a cause in other words
-  means : {A : Type 0} {number : ℕ} → (Cause n text number → A) → (A → Cause n text number) → (read_policy n text ≡ Bad number) ↔ A
+  means : {A : Type 0} {number : ℕ} → (Cause n text number → A) → (A → Cause n text number) → (read_policy n text ≡ Err number) ↔ A
   means {A} {number} says causes = ((λ e. says ((line_refused n text number).0 e)), (λ a. (line_refused n text number).1 (causes a)))
 
   -- none of the five lines, with any numbers, is the front of the text
-  pub line-55 : (read_policy n text ≡ Bad 55) ↔ ((k : ℕ) (values : List ℕ) → Stands text k values → ⊥)
+  pub line-55 : (read_policy n text ≡ Err 55) ↔ ((k : ℕ) (values : List ℕ) → Stands text k values → ⊥)
   line-55 = means says outside_subset
     where
       says : Cause n text 55 → (k : ℕ) (values : List ℕ) → Stands text k values → ⊥
@@ -240,21 +239,21 @@ module _ (n : ℕ) (text : List ℕ) where
   abbrev pub OutOfRange : Type 0
   OutOfRange = (k : ℕ) × (values : List ℕ) × Stands text k values × ((m : ℕ) (rule : Rule) → PolicyStands text m rule → ⊥)
 
-  pub line-11 : (read_policy n text ≡ Bad 11) ↔ OutOfRange
+  pub line-11 : (read_policy n text ≡ Err 11) ↔ OutOfRange
   line-11 = means says (λ cause. out_of_range cause.0 cause.1 cause.2 cause.3)
     where
       says : Cause n text 11 → OutOfRange
       says (out_of_range k values st outside) = (k, values, st, outside)
 
   -- a policy in range is, under another number than the next
-  pub line-12 : (read_policy n text ≡ Bad 12) ↔ ((m : ℕ) × (rule : Rule) × PolicyStands text m rule × (m ≡ n → ⊥))
+  pub line-12 : (read_policy n text ≡ Err 12) ↔ ((m : ℕ) × (rule : Rule) × PolicyStands text m rule × (m ≡ n → ⊥))
   line-12 = means says (λ cause. not_next cause.0 cause.1 cause.2 cause.3)
     where
       says : Cause n text 12 → (m : ℕ) × (rule : Rule) × PolicyStands text m rule × (m ≡ n → ⊥)
       says (not_next m rule st other) = (m, rule, st, other)
 
   -- the next policy is, and names a role twice
-  pub line-13 : (read_policy n text ≡ Bad 13) ↔ ((rule : Rule) × PolicyStands text n rule × (rule_distinct rule ≡ false))
+  pub line-13 : (read_policy n text ≡ Err 13) ↔ ((rule : Rule) × PolicyStands text n rule × (rule_distinct rule ≡ false))
   line-13 = means says (λ cause. same_twice cause.0 cause.1 cause.2)
     where
       says : Cause n text 13 → (rule : Rule) × PolicyStands text n rule × (rule_distinct rule ≡ false)

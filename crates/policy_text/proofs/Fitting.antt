@@ -12,7 +12,7 @@ use Rattle.sets.proofs.Booleans.{clash}
 use Rattle.forms.specs.Forms.{fill}
 use Rattle.forms.specs.Tables.{lines_in, form_at}
 use Rattle.forms.specs.Writing.{last_place, written_of, lent_after}
-use Rattle.forms.specs.declared.writing.Written.TheVariants as written
+use Rattle.std.specs.Prelude.{None, Ok, Err}
 use Rattle.forms.proofs.Marks.{range-fits}
 use Rattle.forms.proofs.Puts.{fill-length}
 use Rattle.forms.proofs.Room.{written-18, written-length}
@@ -25,9 +25,7 @@ use Rattle.rule_text.proofs.LineTables.{rule-line-in-range}
 use Rattle.rule_text.proofs.Slots.{list-few, accepted-rules}
 use Rattle.rule_text.proofs.Texts.{rules-short}
 use Rattle.policy_text.specs.Lines.{policy_forms, policy_count, policy_of, has_policy, policy_text}
-use Rattle.policy_text.specs.Writing.{without_policy, policies_text, written_policies, lent_after_policies}
-use Rattle.policy_text.specs.declared.writing.WithoutPolicy.TheVariants.{Nothing}
-use Rattle.policy_text.specs.declared.writing.PoliciesWritten.TheVariants.{Length, Refused}
+use Rattle.policy_text.specs.Writing.{Length, Refused, without_policy, policies_text, written_policies, lent_after_policies}
 use Rattle.policy_text.proofs.Table.{policy-table}
 
 -- ---- the length of a text
@@ -71,15 +69,15 @@ policies-short list accepted =
 
 -- ---- what is answered of a text that is measured
 
-module _ (list : RuleList) (lent : List ℕ) {left : List ℕ} {length_found : ℕ} (accepted : list_accepted list ≡ true) (nothing : without_policy list ≡ Nothing) where
-  pub too_long : length_found ≡ length (policies_text list) → (written.Refused 18 ≡ written_of (policies_text list) lent) × (left ≡ lent_after (policies_text list) lent)
+module _ (list : RuleList) (lent : List ℕ) {left : List ℕ} {length_found : ℕ} (accepted : list_accepted list ≡ true) (nothing : without_policy list ≡ None) where
+  pub too_long : length_found ≡ length (policies_text list) → (Err 18 ≡ written_of (policies_text list) lent) × (left ≡ lent_after (policies_text list) lent)
       → (Refused 18 length_found ≡ written_policies list lent) × (left ≡ lent_after_policies list lent)
   unfolding written_policies lent_after_policies
   too_long same answer =
       let short = ((written-18 (policies_text list) lent true).0 (sym answer.0)).1 in
       (rw (accepted, nothing, lt-leb (length (policies_text list)) (length lent) short, same), rw (accepted, nothing) answer.1)
 
-  pub long-enough : (written.Length length_found ≡ written_of (policies_text list) lent) × (left ≡ lent_after (policies_text list) lent)
+  pub long-enough : (Ok length_found ≡ written_of (policies_text list) lent) × (left ≡ lent_after (policies_text list) lent)
       → (Length length_found ≡ written_policies list lent) × (left ≡ lent_after_policies list lent)
   unfolding written_policies lent_after_policies
   long-enough answer =

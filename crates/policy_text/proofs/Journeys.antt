@@ -16,15 +16,14 @@ use Rattle.rules.specs.declared.lists.RuleList.{RuleList}
 use Rattle.rule_text.specs.Lines.{right_text, rights_text}
 use Rattle.rule_text.specs.Reading.{read_lines, no_rights, list_of, SameRules, read_rules}
 use Rattle.rule_text.specs.Writing.{text_of}
-use Rattle.rule_text.specs.declared.reading.LoadedRules.{LoadedRules}
+use Rattle.rule_text.specs.Reading.{LoadedRules}
 use Rattle.rule_text.proofs.Slots.{list-rights, none-good}
 use Rattle.rule_text.proofs.Lists.{reads_lines as own-lines}
 use Rattle.rule_text.proofs.Loaded.{loaded-whole, loaded-zero, loaded-list}
 use Rattle.rule_text.proofs.Back as own
 use Rattle.policy_text.specs.Reading.{policies_read, read_policies}
-use Rattle.policy_text.specs.Writing.{policies_text, written_policies, lent_after_policies}
+use Rattle.policy_text.specs.Writing.{Length, Refused, policies_text, written_policies, lent_after_policies}
 use Rattle.policy_text.specs.Causes.{GoodPolicies, Expressible}
-use Rattle.policy_text.specs.declared.writing.PoliciesWritten.TheVariants.{Length, Refused}
 use Rattle.policy_text.proofs.Lists.{reads_lines}
 use Rattle.policy_text.proofs.Back.{list-of-rules, list-is-accepted, list-expressible, accepted-policies, whole-list, write-back, read_back, read-back-same, read-accepted, read-expressible}
 use Rattle.policy_text.proofs.Room.{written-length, written-leaves, refused-18, refused-leaves}

@@ -1,4 +1,5 @@
 pub mod Table
+pub mod FoundPolicies
 pub mod Causes
 pub mod Lists
 pub mod Loop

@@ -1,16 +1,18 @@
 -- A whole text of policies: what reading its lines gives, and what text gives it.
 -- Assumes nothing.
-use mathlib.Core.Path.{◌≡◌, refl}
-use mathlib.Core.Bool.{Bool, true, ◌&&◌}
+use mathlib.Core.Path.{◌≡◌}
+use mathlib.Core.Bool.{true}
 use mathlib.Core.Logic.{◌⊎◌}
-use mathlib.Core.List.{List, [], ◌∷◌, ◌++◌}
-use Prim.Native.Nat.{ℕ, zero, suc, ◌+◌, ◌≤◌, ◌<◌}
+use mathlib.Core.List.{List, [], ◌++◌}
+use Prim.Native.Nat.{ℕ, suc, ◌+◌, ◌≤◌, ◌<◌}
 use native.Mathlib.Nat.{zero-add}
 use native.Mathlib.Omega.{arith}
 use lib.ListN.{length, get_or}
-use Rattle.sets.proofs.Booleans.{both, both_true}
+use Rattle.sets.proofs.Booleans.{both_true, left-true, right-true}
 use Rattle.rules.specs.Acceptance.{rule_accepted, every}
 use Rattle.rules.specs.declared.families.Rule.{Rule}
+use Rattle.rules.proofs.Every.{every_of, every-both}
+use Rattle.rules.proofs.RuleLists.{passes-at, passes-all}
 use Rattle.rule_text.specs.Lines.{filler, list_text}
 use Rattle.rule_text.specs.Reading.{LinesRead, read_from, no_rights}
 use Rattle.rule_text.specs.Causes.{GoodLines}
@@ -24,43 +26,18 @@ use Rattle.policy_text.proofs.Causes.{passes, policy-language}
 
 -- ---- rules that pass
 
-every-both : (p q : Rule → Bool) (rules : List Rule) → every (λ rule. p rule && q rule) rules ≡ true → (every p rules ≡ true) × (every q rules ≡ true)
-unfolding every
-every-both p q [] h = (refl, refl)
-every-both p q (rule ∷ rules) h =
-    let parts = both (p rule && q rule) (every (λ rule. p rule && q rule) rules) h in
-    let here = both (p rule) (q rule) parts.0 in
-    let more = every-both p q rules parts.1 in
-    (both_true (p rule) (every p rules) here.0 more.0, both_true (q rule) (every q rules) here.1 more.1)
-
-both-every : (p q : Rule → Bool) (rules : List Rule) → every p rules ≡ true → every q rules ≡ true → every (λ rule. p rule && q rule) rules ≡ true
-unfolding every
-both-every p q [] h k = refl
-both-every p q (rule ∷ rules) h k =
-    let first = both (p rule) (every p rules) h in
-    let second = both (q rule) (every q rules) k in
-    both_true (p rule && q rule) (every (λ rule. p rule && q rule) rules) (both_true (p rule) (q rule) first.0 second.0) (both-every p q rules first.1 second.1)
-
--- a test that passes at each rule
-pub every-at : (p : Rule → Bool) (rules : List Rule) → every p rules ≡ true → (i : ℕ) → i < length rules → p (get_or rules i filler) ≡ true
-unfolding every
-every-at p [] h i low = absurd (omega arith)
-every-at p (rule ∷ rules) h zero low = (both (p rule) (every p rules) h).0
-every-at p (rule ∷ rules) h (suc i) low = every-at p rules (both (p rule) (every p rules) h).1 i (omega arith)
-
-pub at_every : (p : Rule → Bool) (rules : List Rule) → ((i : ℕ) → i < length rules → p (get_or rules i filler) ≡ true) → every p rules ≡ true
-unfolding every
-at_every p [] h = refl
-at_every p (rule ∷ rules) h = both_true (p rule) (every p rules) (h 0 (omega arith)) (at_every p rules (λ i low. h (suc i) (omega arith)))
-
 pub good-passes : {rules : List Rule} → GoodPolicies rules → every passes rules ≡ true
 good-passes {rules} good =
-    both-every rule_accepted has_policy rules good.accepted (at_every has_policy rules (λ i low. kind-has (good.kinds i low)))
+    every-both rule_accepted has_policy passes (λ rule. both_true (rule_accepted rule) (has_policy rule)) rules good.accepted (passes-all has_policy filler rules (λ i low. kind-has (good.kinds i low)))
 
 passes-good : (rules : List Rule) → length rules ≤ 128 → every passes rules ≡ true → GoodPolicies rules
-passes-good rules few passed =
-    let parts = every-both rule_accepted has_policy rules passed in
-    record { few = few; accepted = parts.0; kinds = λ i low. has-kind (get_or rules i filler) (every-at has_policy rules parts.1 i low) }
+passes-good rules few passed = record {
+  few = few;
+  accepted = every_of (Unit {0}) (λ _. passes) rule_accepted (λ rule e. left-true (rule_accepted rule) (has_policy rule) (e tt)) rules (λ _. passed);
+  kinds = λ i low.
+      let rule = get_or rules i filler in
+      has-kind rule (right-true (rule_accepted rule) (has_policy rule) (passes-at passes filler rules passed i low));
+}
 
 -- with no right they are good lines of a rule list
 pub good-lines : {rules : List Rule} → GoodPolicies rules → GoodLines no_rights rules

@@ -10,8 +10,7 @@ use Rattle.rules.specs.declared.lists.RuleList.{RuleList}
 use Rattle.rule_text.specs.Lines.{right_lines}
 use Rattle.rule_text.specs.Reading.{number_in, read_from, no_rights, list_of, unused_slots, prefix_of}
 use Rattle.rule_text.specs.declared.reading.Parsed.{Parsed}
-use Rattle.rule_text.specs.declared.reading.LineRead.{LineRead}
-use Rattle.rule_text.specs.declared.reading.LineRead.TheVariants.{Good, Bad}
+use Rattle.std.specs.Prelude.{Result, Ok, Err}
 use Rattle.rule_text.proofs.LineLoop.{onto, Inv, with_rule, fits, small, turn, stop, end}
 use Rattle.rule_text.proofs.Prefixes.{start-same}
 use Rattle.rule_text.proofs.Loaded.{load-bad, load-whole}
@@ -54,8 +53,8 @@ begin text list e =
     }
 
 module _ {text : List ℕ} {list : RuleList} {rest : List ℕ} (read : Read text list rest) (some : 0 < length rest)
-    {answer : LineRead} (given : answer ≡ read_policy (list.length + 1) rest) where
-  module _ {entry : Parsed} (good : answer ≡ Good entry) where
+    {answer : Result Parsed ℕ} (given : answer ≡ read_policy (list.length + 1) rest) where
+  module _ {entry : Parsed} (good : answer ≡ Ok entry) where
     pub within : entry.length ≤ length rest
     within = fits policy-language read.inv some given good
 
@@ -78,15 +77,13 @@ module _ {text : List ℕ} {list : RuleList} {rest : List ℕ} (read : Read text
             (length text - length (take (length rest - entry.length) (drop entry.length rest))) (list.length + 1 + 1)
         moved = rw bytes at (turn policy-language read.inv some given good)
 
-  module _ {number : ℕ} (bad : answer ≡ Bad number) {code : ℕ} (told : code ≡ number_in answer) where
-    -- the refusal, with its line and nothing loaded
-    pub refused : (empty : RuleList) → empty ≡ list_of no_rights [] → record { number = code; line = list.length + 1; list = empty } ≡ read_policies text
-    refused empty e =
-        let whole = stop policy-language read.inv some given bad told in
-        let cause = (line_refused (list.length + 1) rest number).0 (sym given ∙ bad) in
-        let same : code ≡ number = told ∙ ap number_in bad in
-        load-bad (policies_read text) (record { list = list; length = length text - length rest; number = code; line = list.length + 1 }) whole
-        (λ z. omega (arith, cause-some cause)) empty e
+  -- the refusal, with its line and nothing loaded
+  pub refused : (number : ℕ) → answer ≡ Err number → record { number = number; line = list.length + 1; list = list_of no_rights [] } ≡ read_policies text
+  refused number bad =
+      let whole = stop policy-language read.inv some given bad (sym (ap number_in bad)) in
+      let cause = (line_refused (list.length + 1) rest number).0 (sym given ∙ bad) in
+      load-bad (policies_read text) (record { list = list; length = length text - length rest; number = number; line = list.length + 1 }) whole
+      (λ z. omega (arith, cause-some cause)) (list_of no_rights []) refl
 
 -- the text is at its end
 pub whole : {text : List ℕ} {list : RuleList} (rest : List ℕ) → Read text list rest → length rest ≤ 0 → record { number = 0; line = 0; list = list } ≡ read_policies text

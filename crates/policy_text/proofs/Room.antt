@@ -10,34 +10,31 @@ use native.Mathlib.Omega.{arith}
 use lib.ListN.{length, drop}
 use lib.Dec.{leb}
 use borrow.Author.Tests.{leb-true, leb-false, le-leb, lt-leb}
+use Rattle.std.specs.Prelude.{Option, Some, None}
 use Rattle.forms.specs.Writing.{lent_after}
 use Rattle.rules.specs.Acceptance.{list_accepted}
 use Rattle.rules.specs.declared.lists.RuleList.{RuleList}
-use Rattle.policy_text.specs.Writing.{without_policy, policies_text, unless_without, written_policies, lent_after_policies}
+use Rattle.policy_text.specs.Writing.{without_policy, policies_text, PoliciesWritten, Length, Refused, unless_without, written_policies, lent_after_policies}
 use Rattle.policy_text.specs.Causes.{HasNoLine, Expressible}
-use Rattle.policy_text.specs.declared.writing.WithoutPolicy.{WithoutPolicy}
-use Rattle.policy_text.specs.declared.writing.WithoutPolicy.TheVariants.{Nothing, Lowest}
-use Rattle.policy_text.specs.declared.writing.PoliciesWritten.{PoliciesWritten}
-use Rattle.policy_text.specs.declared.writing.PoliciesWritten.TheVariants.{Length, Refused}
 use Rattle.policy_text.proofs.Missing.{expressible-means, lacks-means}
 
 -- what is answered, as one of four
 data Answered (list : RuleList) (lent : List ℕ) : PoliciesWritten → Type 0 where
   forty : list_accepted list ≡ false → Answered list lent (Refused 40 0)
-  without : (n : ℕ) → list_accepted list ≡ true → without_policy list ≡ Lowest n → Answered list lent (Refused 56 n)
-  short : list_accepted list ≡ true → without_policy list ≡ Nothing → length lent < length (policies_text list) → Answered list lent (Refused 18 (length (policies_text list)))
-  fits : list_accepted list ≡ true → without_policy list ≡ Nothing → length (policies_text list) ≤ length lent → Answered list lent (Length (length (policies_text list)))
+  without : (n : ℕ) → list_accepted list ≡ true → without_policy list ≡ Some n → Answered list lent (Refused 56 n)
+  short : list_accepted list ≡ true → without_policy list ≡ None → length lent < length (policies_text list) → Answered list lent (Refused 18 (length (policies_text list)))
+  fits : list_accepted list ≡ true → without_policy list ≡ None → length (policies_text list) ≤ length lent → Answered list lent (Length (length (policies_text list)))
 
 answered : (list : RuleList) (lent : List ℕ) → Answered list lent (written_policies list lent)
 unfolding written_policies
 answered list lent = by-list (list_accepted list) refl (without_policy list) refl (leb (length (policies_text list)) (length lent)) refl
   where
-    by-list : (a : Bool) → list_accepted list ≡ a → (w : WithoutPolicy) → without_policy list ≡ w → (f : Bool) → leb (length (policies_text list)) (length lent) ≡ f
+    by-list : (a : Bool) → list_accepted list ≡ a → (w : Option ℕ) → without_policy list ≡ w → (f : Bool) → leb (length (policies_text list)) (length lent) ≡ f
         → Answered list lent (cond a (unless_without w (cond f (Length (length (policies_text list))) (Refused 18 (length (policies_text list))))) (Refused 40 0))
     by-list false a w e f g = forty a
-    by-list true a (Lowest n) e f g = without n a e
-    by-list true a Nothing e true g = fits a e (leb-true _ _ g)
-    by-list true a Nothing e false g = short a e (leb-false _ _ g)
+    by-list true a (Some n) e f g = without n a e
+    by-list true a None e true g = fits a e (leb-true _ _ g)
+    by-list true a None e false g = short a e (leb-false _ _ g)
 
 unequal : {A : Type 0} → ◌≡◌ {A = ℕ} 0 1 → A
 unequal e = absurd (omega arith)
@@ -61,7 +58,7 @@ module _ (list : RuleList) (lent : List ℕ) where
     where
       to : {answer : PoliciesWritten} → Answered list lent answer → answer ≡ Refused 56 n → (list_accepted list ≡ true) × HasNoLine list n
       to (forty a) e = absurd (let z : ◌≡◌ {A = ℕ} 40 56 = cc in omega arith)
-      to (without m a w) e = let same : m ≡ n = cc in (a, (lacks-means list n).0 (w ∙ ap Lowest same))
+      to (without m a w) e = let same : m ≡ n = cc in (a, (lacks-means list n).0 (w ∙ ap Some same))
       to (short a w h) e = absurd (let z : ◌≡◌ {A = ℕ} 18 56 = cc in omega arith)
       to (fits a w h) e = unequal cc
 

@@ -3,7 +3,9 @@
 
 mod lines;
 mod reading;
+mod refusals;
 mod writing;
 
 pub use reading::read_policies;
-pub use writing::{PoliciesWritten, write_policies};
+pub use refusals::WriteRefusal;
+pub use writing::write_policies;

@@ -19,6 +19,7 @@ pub const FORM_COUNT: usize = 5;
 pub const STARTS: [usize; 6] = [0, 37, 73, 97, 122, 175];
 
 // The policy of a rule under its number; past the last form where the rule has none.
+#[tactic(auto, unfolding(crate::specs::Lines::policy_of))]
 pub fn policy_of(number: u64, rule: Rule) -> Line
     ensures { result ≡ policy_of number rule }
 {
@@ -41,7 +42,8 @@ fn no_policy() -> Line
     }
 }
 
-// The rule with that form and those values.
+// The rule with that form, which is its place in the table, and those values.
+#[tactic(auto, unfolding(crate::specs::Lines::rule_of_policy))]
 pub fn rule_of(form: usize, values: &[u64; 6]) -> Rule
     ensures { result ≡ rule_of_policy form values.now }
 {

@@ -1,7 +1,7 @@
 -- Request 2026-05: "assign, withdraw, grant, take, lend and recall held by named roles". What 53 and 54 look at, of a step that 20 does not
 -- refuse.
 -- Assumes nothing.
-use Rattle.std.specs.Prelude.{ℕ, Bool, true, false, not, cond, ◌&&◌, ◌||◌, List}
+use Rattle.std.specs.Prelude.{ℕ, Bool, true, false, not, cond, ◌&&◌, ◌||◌, List, Result, Ok, Err}
 use Rattle.sets.specs.Sets.{member, any}
 use Rattle.rules.specs.Acceptance.{right_at}
 use Rattle.rules.specs.Families.{word_at, session_at, permissions_of}
@@ -13,6 +13,8 @@ use Rattle.steps.specs.Steps.{right_kind, is_administrative}
 use Rattle.steps.specs.declared.acting.Acting.{Acting}
 use Rattle.steps.specs.declared.acting.Acting.TheVariants.{Nobody, InSession}
 use Rattle.steps.specs.declared.actions.Action.{Action}
+use Rattle.steps.specs.declared.refusals.Refusal.{Refusal}
+use Rattle.steps.specs.declared.refusals.Refusal.TheVariants.{ActorNotOpen, RightLacking}
 
 -- the right of a step's kind: "one line a kind in that order"; there is none for a kind that is not one of the six
 abbrev pub right_for : List RightSlot → Action → Right
@@ -42,8 +44,9 @@ lacks_right (Permission p) (InSession i) active granted = not (is_carried grante
 
 -- ---- as the code goes about it
 
-abbrev pub refusal_by : Right → Acting → List Session → List ℕ → List ℕ → ℕ
-refusal_by right by sessions active granted = cond (acts_closed sessions by) 53 (cond (lacks_right right by active granted) 54 0)
+abbrev pub refusal_by : Right → Acting → List Session → List ℕ → List ℕ → Result (Unit {0}) Refusal
+refusal_by right by sessions active granted =
+    cond (acts_closed sessions by) (Err ActorNotOpen) (cond (lacks_right right by active granted) (Err RightLacking) (Ok tt))
 
 abbrev pub acts : Acting → Bool
 acts Nobody = false

@@ -5,60 +5,54 @@ ghost use Rattle.std.specs.Prelude.{◌≡◌};
 ghost use Rattle.rules.specs.Families.{word_at};
 ghost use Rattle.rights.specs.Rights.{is_carried, right_for, is_stated, acts, is_closed, acts_closed, lacks_right, is_bound, refusal_by};
 
-use rules::{Right, RightSlot, RuleList, Session};
-use sets::word32;
+use rules::{Right, RightSlot, Session};
+use sets::Set;
 use steps::acting::{is_administrative, right_kind};
-use steps::{Acting, Action, Step};
+use steps::{Acting, Action, Refusal, Step};
 
 // 53 or 54 may refuse the step: it is one of the six kinds, and its kind has a right or a session acts.
-pub fn is_bound(rights: [RightSlot; 6], by: Acting, action: Action) -> bool
-    ensures { result ≡ is_bound rights by action }
+pub fn is_bound(rights: &[RightSlot; 6], by: Acting, action: Action) -> bool
+    ensures { result ≡ is_bound rights.now by action }
 {
-    if !is_administrative(action) {
-        return false;
-    }
-    acts(by) | is_stated(right_for(rights, action))
+    is_administrative(action) && (acts(by) || is_stated(right_for(rights, action)))
 }
 
-// 53 where the acting session is not open, else 54 where the right is lacking, else 0.
+// 53 where the acting session is not open, else 54 where the right is lacking.
 pub fn refusal(
-    rights: [RightSlot; 6],
+    rights: &[RightSlot; 6],
     by: Acting,
     action: Action,
-    sessions: [Session; 32],
-    active: [u32; 32],
-    granted: [u32; 32],
-) -> usize
-    ensures { result ≡ refusal_by (right_for rights action) by sessions active granted }
+    sessions: &[Session; 32],
+    active: &[u32; 32],
+    granted: &[u32; 32],
+) -> Result<(), Refusal>
+    ensures { result ≡ refusal_by (right_for rights.now action) by sessions.now active.now granted.now }
 {
     if acts_closed(sessions, by) {
-        return 53;
+        return Err(Refusal::ActorNotOpen);
     }
     if lacks_right(right_for(rights, action), by, active, granted) {
-        return 54;
+        return Err(Refusal::RightLacking);
     }
-    0
+    Ok(())
 }
 
 // One of the roles carries the permission.
+#[tactic(auto, using(crate::proofs::Carrying::carried_turns))]
 pub fn is_carried(granted: &[u32; 32], roles: u32, permission: usize) -> bool
     ensures { result ≡ is_carried granted.now roles permission }
 {
-    let mut role: usize = 0;
-    'roles: loop {
-        if role == 32 {
-            break 'roles false;
+    for (role, permissions) in granted.iter().enumerate() {
+        if roles.contains(role) && permissions.contains(permission) {
+            return true;
         }
-        if word32::member(roles, role) & word32::member(granted[role], permission) {
-            break 'roles true;
-        }
-        role += 1;
     }
+    false
 }
 
 // The acting session is not open.
-fn acts_closed(sessions: [Session; 32], by: Acting) -> bool
-    ensures { result ≡ acts_closed sessions by }
+fn acts_closed(sessions: &[Session; 32], by: Acting) -> bool
+    ensures { result ≡ acts_closed sessions.now by }
 {
     match by {
         Acting::Nobody => false,
@@ -67,19 +61,15 @@ fn acts_closed(sessions: [Session; 32], by: Acting) -> bool
 }
 
 // A session past the last is not open.
-fn is_closed(sessions: [Session; 32], session: usize) -> bool
-    ensures { result ≡ is_closed sessions session }
+fn is_closed(sessions: &[Session; 32], session: usize) -> bool
+    ensures { result ≡ is_closed sessions.now session }
 {
-    if Step::SESSIONS <= session {
-        return true;
-    }
-    let place = sessions[session];
-    !place.is_open
+    Step::SESSIONS <= session || !sessions[session].is_open
 }
 
 // The kind has a right, and nobody acts or no role active in the acting session carries its permission.
-fn lacks_right(right: Right, by: Acting, active: [u32; 32], granted: [u32; 32]) -> bool
-    ensures { result ≡ lacks_right right by active granted }
+fn lacks_right(right: Right, by: Acting, active: &[u32; 32], granted: &[u32; 32]) -> bool
+    ensures { result ≡ lacks_right right by active.now granted.now }
 {
     let Right::Permission(permission) = right else {
         return false;
@@ -87,7 +77,7 @@ fn lacks_right(right: Right, by: Acting, active: [u32; 32], granted: [u32; 32]) 
     match by {
         Acting::Nobody => true,
         Acting::InSession(session) => !is_carried(
-            &granted,
+            granted,
             roles_in(active, session as usize),
             permission as usize,
         ),
@@ -95,42 +85,29 @@ fn lacks_right(right: Right, by: Acting, active: [u32; 32], granted: [u32; 32]) 
 }
 
 // The roles active in a session; none in one past the last.
-fn roles_in(active: [u32; 32], session: usize) -> u32
-    ensures { result ≡ word_at active session }
+fn roles_in(active: &[u32; 32], session: usize) -> u32
+    ensures { result ≡ word_at active.now session }
 {
-    if Step::SESSIONS <= session {
-        return 0;
-    }
-    active[session]
+    active.get(session).copied().unwrap_or(0)
 }
 
 fn acts(by: Acting) -> bool
     ensures { result ≡ acts by }
 {
-    match by {
-        Acting::Nobody => false,
-        Acting::InSession(_) => true,
-    }
+    matches!(by, Acting::InSession(_))
 }
 
 fn is_stated(right: Right) -> bool
     ensures { result ≡ is_stated right }
 {
-    match right {
-        Right::Unstated => false,
-        Right::Permission(_) => true,
-    }
+    matches!(right, Right::Permission(_))
 }
 
 // The right of a step's kind; none where no such kind can have one.
-fn right_for(rights: [RightSlot; 6], action: Action) -> Right
-    ensures { result ≡ right_for rights action }
+fn right_for(rights: &[RightSlot; 6], action: Action) -> Right
+    ensures { result ≡ right_for rights.now action }
 {
-    let kind = right_kind(action);
-    if RuleList::RIGHTS <= kind {
-        return Right::Unstated;
-    }
-    let slot = rights[kind];
-    let right = slot.right;
-    right
+    rights
+        .get(right_kind(action))
+        .map_or(Right::Unstated, |slot| slot.right)
 }

@@ -15,7 +15,7 @@ use Rattle.rule_text.specs.Lines.{lines_text, next_line}
 use Rattle.rule_text.specs.Reading.{read_lines, no_rights, list_of, SameRules, prefix_of, loaded_of, read_rules}
 use Rattle.rule_text.specs.Writing.{text_of}
 use Rattle.rule_text.specs.Causes.{Cause, GoodLines, FirstBad}
-use Rattle.rule_text.specs.declared.reading.LoadedRules.{LoadedRules}
+use Rattle.rule_text.specs.Reading.{LoadedRules}
 use Rattle.rule_text.proofs.Slots.{rules-of-list, list-rights, list-accepted, slots_length, accepted-most, accepted-good, none-good, same-rules}
 use Rattle.rule_text.proofs.Loaded.{loaded-whole, loaded-bad, zero-or-some, loaded-zero, loaded-some}
 use Rattle.rule_text.proofs.Lists.{cause-number, cause-some, reads_lines, reads_whole, reads-until}

@@ -20,8 +20,7 @@ use Rattle.rule_text.specs.Lines.{rule_forms, form_count, rule_form_count, line_
 use Rattle.rule_text.specs.Reading.{rule_read, line_after, read_line, right_slot}
 use Rattle.rule_text.specs.Causes.{Stands, RuleStands, RightStands, Misplaced, second_of_kind, Cause, no_form, out_of_range, not_next, misplaced, same_twice, unsound, GoodLine, RightsEnd}
 use Rattle.rule_text.specs.declared.reading.Parsed.{Parsed}
-use Rattle.rule_text.specs.declared.reading.LineRead.{LineRead}
-use Rattle.rule_text.specs.declared.reading.LineRead.TheVariants.{Good, Bad}
+use Rattle.std.specs.Prelude.{Result, Ok, Err}
 use Rattle.sets.proofs.Booleans.{clash}
 use Rattle.forms.proofs.Finding.{Hits, found-hits, found_none}
 use Rattle.rule_text.proofs.Values.{table-length}
@@ -30,9 +29,9 @@ use Rattle.rule_text.proofs.RightLines.{right-at, right-in-range, right-found, o
 
 -- ---- what was read has its cause
 
-abbrev pub Says : List RightSlot → ℕ → List ℕ → LineRead → Type 0
-Says rights n text (Good entry) = GoodLine n text entry
-Says rights n text (Bad number) = Cause rights n text number
+abbrev pub Says : List RightSlot → ℕ → List ℕ → Result Parsed ℕ → Type 0
+Says rights n text (Ok entry) = GoodLine n text entry
+Says rights n text (Err number) = Cause rights n text number
 
 -- what was found, where it is a form
 module _ {text : List ℕ} {f : Found} (hits : Hits rule_forms text f) where
@@ -77,8 +76,8 @@ module _ (rights : List RightSlot) (n : ℕ) {text : List ℕ} (ended : RightsEn
       → (right : Bool) → leb rule_form_count f.form ≡ right
       → (next : Bool) → eqb (get_or f.values 0 0) n ≡ next → (distinct : Bool) → rule_distinct (rule_of_form f.form f.values) ≡ distinct
       → (sound : Bool) → rule_sound (rule_of_form f.form f.values) ≡ sound
-      → Says rights n text (cond no (Bad 10) (cond (not ranged) (Bad 11) (cond right (Bad 12) (cond (not next) (Bad 12) (cond (not distinct) (Bad 13) (cond (not sound) (Bad 14)
-      (Good (record { rule = rule_of_form f.form f.values; length = f.length }))))))))
+      → Says rights n text (cond no (Err 10) (cond (not ranged) (Err 11) (cond right (Err 12) (cond (not next) (Err 12) (cond (not distinct) (Err 13) (cond (not sound) (Err 14)
+      (Ok (record { rule = rule_of_form f.form f.values; length = f.length }))))))))
   by_tests true a ranged b right r next c distinct d sound e = no_form (none (eqb-true f.form form_count a))
   by_tests false a false b right r next c distinct d sound e =
       out_of_range f.form f.values (line_at hits (in_table hits (eqb-false _ _ a))) (outside b) (outside-right b)
@@ -122,7 +121,7 @@ line-says rights n text ended =
 
 -- rule m stands there: all is decided by its number and the rule
 rule-decides : (n : ℕ) (text : List ℕ) (m : ℕ) (rule : Rule) → RuleStands text m rule
-    → read_line n text ≡ cond (not (eqb m n)) (Bad 12) (rule_read rule (length (rule_text m rule)))
+    → read_line n text ≡ cond (not (eqb m n)) (Err 12) (rule_read rule (length (rule_text m rule)))
 unfolding read_line line_after
 rule-decides n text m rule st =
     let form = form-of-rule m rule in
@@ -137,7 +136,7 @@ rule-decides n text m rule st =
     )
 
 -- a right's line stands there
-right-decides : (n : ℕ) (text : List ℕ) (kind permission : ℕ) → RightStands text kind permission → read_line n text ≡ Bad 12
+right-decides : (n : ℕ) (text : List ℕ) (kind permission : ℕ) → RightStands text kind permission → read_line n text ≡ Err 12
 unfolding read_line line_after
 right-decides n text kind permission st =
     rw (
@@ -147,11 +146,11 @@ right-decides n text kind permission st =
       le-leb rule_form_count (rule_form_count + kind) (omega arith),
     )
 
-no-form-read : (n : ℕ) (text : List ℕ) → ((k : ℕ) (values : List ℕ) → Stands text k values → ⊥) → read_line n text ≡ Bad 10
+no-form-read : (n : ℕ) (text : List ℕ) → ((k : ℕ) (values : List ℕ) → Stands text k values → ⊥) → read_line n text ≡ Err 10
 unfolding read_line line_after
 no-form-read n text none = by_form (eqb (found rule_forms text).form form_count) refl
   where
-    by_form : (no : Bool) → eqb (found rule_forms text).form form_count ≡ no → line_after n (found rule_forms text) ≡ Bad 10
+    by_form : (no : Bool) → eqb (found rule_forms text).form form_count ≡ no → line_after n (found rule_forms text) ≡ Err 10
     by_form true e = rw e
     by_form false e =
         let hits = found-hits rule_forms text table-distinct in
@@ -171,7 +170,7 @@ module _ (rights : List RightSlot) (n : ℕ) (text : List ℕ) where
   cause-ends (unsound rule there distinct bad) kind permission st = absurd (no-rule st there)
 
   out-of-range-read : (k : ℕ) (values : List ℕ) → Stands text k values → ((m : ℕ) (rule : Rule) → RuleStands text m rule → ⊥)
-      → ((kind permission : ℕ) → RightStands text kind permission → ⊥) → read_line n text ≡ Bad 11
+      → ((kind permission : ℕ) → RightStands text kind permission → ⊥) → read_line n text ≡ Err 11
   out-of-range-read k values st none none_right = by_read (read_line n text) (line-says rights n text (λ kind permission there. absurd (none_right kind permission there)))
     where
       by-cause : {number : ℕ} → Cause rights n text number → number ≡ 11
@@ -182,11 +181,11 @@ module _ (rights : List RightSlot) (n : ℕ) (text : List ℕ) where
       by-cause (same_twice rule there same) = absurd (none n rule there)
       by-cause (unsound rule there distinct bad) = absurd (none n rule there)
 
-      by_read : (read : LineRead) → Says rights n text read → read ≡ Bad 11
-      by_read (Good entry) good = absurd (none n entry.rule good.stands)
-      by_read (Bad number) cause = ap Bad (by-cause cause)
+      by_read : (read : Result Parsed ℕ) → Says rights n text read → read ≡ Err 11
+      by_read (Ok entry) good = absurd (none n entry.rule good.stands)
+      by_read (Err number) cause = ap Err (by-cause cause)
 
-  pub has-cause : {number : ℕ} → Cause rights n text number → read_line n text ≡ Bad number
+  pub has-cause : {number : ℕ} → Cause rights n text number → read_line n text ≡ Err number
   unfolding rule_read
   has-cause (no_form none) = no-form-read n text none
   has-cause (out_of_range k values st outside outside-right) = out-of-range-read k values st outside outside-right
@@ -195,7 +194,7 @@ module _ (rights : List RightSlot) (n : ℕ) (text : List ℕ) where
   has-cause (same_twice rule st same) = rule-decides n text n rule st ∙ rw (eq-eqb n n refl, same)
   has-cause (unsound rule st distinct bad) = rule-decides n text n rule st ∙ rw (eq-eqb n n refl, distinct, bad)
 
-is-good : (n : ℕ) (text : List ℕ) (entry : Parsed) → GoodLine n text entry → read_line n text ≡ Good entry
+is-good : (n : ℕ) (text : List ℕ) (entry : Parsed) → GoodLine n text entry → read_line n text ≡ Ok entry
 unfolding rule_read
 is-good n text entry good = rule-decides n text n entry.rule good.stands ∙ rw (eq-eqb n n refl, good.distinct, good.sound, ← good.length)
 
@@ -204,7 +203,7 @@ is-good n text entry good = rule-decides n text n entry.rule good.stands ∙ rw 
 -- after the lines of these rights, where rule n is the next and no good line of a right stands, a line is refused with a number exactly where
 -- it has the number's cause
 pub line_refused : (rights : List RightSlot) (n : ℕ) (text : List ℕ) → RightsEnd rights n text → (number : ℕ)
-    → (read_line n text ≡ Bad number) ↔ Cause rights n text number
+    → (read_line n text ≡ Err number) ↔ Cause rights n text number
 line_refused rights n text ended number = ((λ e. subst (Says rights n text) e (line-says rights n text ended)), has-cause rights n text)
 
 -- where every kind has a right, no line of one is good
@@ -217,18 +216,18 @@ every-right-ends n text kind permission st =
     second_of_kind 0 (ap (λ (slot : RightSlot). slot.right) (get_or-replicate 6 kind (right_slot (Permission 0)) unstated st.known))
 
 -- and is good exactly where it is an accepted rule's text
-pub line-good : (n : ℕ) (text : List ℕ) (entry : Parsed) → (read_line n text ≡ Good entry) ↔ GoodLine n text entry
+pub line-good : (n : ℕ) (text : List ℕ) (entry : Parsed) → (read_line n text ≡ Ok entry) ↔ GoodLine n text entry
 line-good n text entry = ((λ e. subst (Says every-right n text) e (line-says every-right n text (every-right-ends n text))), is-good n text entry)
 
 -- ---- number by number
 
 module _ (rights : List RightSlot) (n : ℕ) (text : List ℕ) (ended : RightsEnd rights n text) where
   -- a cause in other words
-  means : {A : Type 0} {number : ℕ} → (Cause rights n text number → A) → (A → Cause rights n text number) → (read_line n text ≡ Bad number) ↔ A
+  means : {A : Type 0} {number : ℕ} → (Cause rights n text number → A) → (A → Cause rights n text number) → (read_line n text ≡ Err number) ↔ A
   means {A} {number} says causes = ((λ e. says ((line_refused rights n text ended number).0 e)), (λ a. (line_refused rights n text ended number).1 (causes a)))
 
   -- no form with any numbers is the front of the text
-  pub line-10 : (read_line n text ≡ Bad 10) ↔ ((k : ℕ) (values : List ℕ) → Stands text k values → ⊥)
+  pub line-10 : (read_line n text ≡ Err 10) ↔ ((k : ℕ) (values : List ℕ) → Stands text k values → ⊥)
   line-10 = means says no_form
     where
       says : Cause rights n text 10 → (k : ℕ) (values : List ℕ) → Stands text k values → ⊥
@@ -239,7 +238,7 @@ module _ (rights : List RightSlot) (n : ℕ) (text : List ℕ) (ended : RightsEn
   OutOfRange = (k : ℕ) × (values : List ℕ) × Stands text k values × ((m : ℕ) (rule : Rule) → RuleStands text m rule → ⊥)
       × ((kind permission : ℕ) → RightStands text kind permission → ⊥)
 
-  pub line-11 : (read_line n text ≡ Bad 11) ↔ OutOfRange
+  pub line-11 : (read_line n text ≡ Err 11) ↔ OutOfRange
   line-11 = means says (λ cause. out_of_range cause.0 cause.1 cause.2 cause.3 cause.4)
     where
       says : Cause rights n text 11 → OutOfRange
@@ -249,7 +248,7 @@ module _ (rights : List RightSlot) (n : ℕ) (text : List ℕ) (ended : RightsEn
   abbrev pub NotNext : Type 0
   NotNext = ((m : ℕ) × (rule : Rule) × RuleStands text m rule × (m ≡ n → ⊥)) ⊎ ((kind : ℕ) × (permission : ℕ) × RightStands text kind permission × Misplaced rights n kind)
 
-  pub line-12 : (read_line n text ≡ Bad 12) ↔ NotNext
+  pub line-12 : (read_line n text ≡ Err 12) ↔ NotNext
   line-12 = means says causes
     where
       says : Cause rights n text 12 → NotNext
@@ -261,19 +260,19 @@ module _ (rights : List RightSlot) (n : ℕ) (text : List ℕ) (ended : RightsEn
       causes (inr cause) = misplaced cause.0 cause.1 cause.2 cause.3
 
   -- the next rule is, and names a role or permission twice
-  pub line-13 : (read_line n text ≡ Bad 13) ↔ ((rule : Rule) × RuleStands text n rule × (rule_distinct rule ≡ false))
+  pub line-13 : (read_line n text ≡ Err 13) ↔ ((rule : Rule) × RuleStands text n rule × (rule_distinct rule ≡ false))
   line-13 = means says (λ cause. same_twice cause.0 cause.1 cause.2)
     where
       says : Cause rights n text 13 → (rule : Rule) × RuleStands text n rule × (rule_distinct rule ≡ false)
       says (same_twice rule st same) = (rule, st, same)
 
   -- the next rule is, names none twice, and its term or shape is not sound
-  pub line-14 : (read_line n text ≡ Bad 14) ↔ ((rule : Rule) × RuleStands text n rule × (rule_distinct rule ≡ true) × (rule_sound rule ≡ false))
+  pub line-14 : (read_line n text ≡ Err 14) ↔ ((rule : Rule) × RuleStands text n rule × (rule_distinct rule ≡ true) × (rule_sound rule ≡ false))
   line-14 = means says (λ cause. unsound cause.0 cause.1 cause.2 cause.3)
     where
       says : Cause rights n text 14 → (rule : Rule) × RuleStands text n rule × (rule_distinct rule ≡ true) × (rule_sound rule ≡ false)
       says (unsound rule st distinct bad) = (rule, st, distinct, bad)
 
 -- where no form is the front of the text, none is a right's
-pub no-form-there : (rights : List RightSlot) (n : ℕ) (text : List ℕ) → read_line n text ≡ Bad 10 → Cause rights n text 10
+pub no-form-there : (rights : List RightSlot) (n : ℕ) (text : List ℕ) → read_line n text ≡ Err 10 → Cause rights n text 10
 no-form-there rights n text e = no_form ((line-10 every-right n text (every-right-ends n text)).0 e)

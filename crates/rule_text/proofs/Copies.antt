@@ -6,11 +6,11 @@ use mathlib.Core.List.{List}
 use Prim.Native.Nat.{ℕ, ◌≤◌, ◌<◌}
 use lib.ListN.{length, take}
 use Rattle.forms.specs.Writing.{TextWritten}
-use Rattle.forms.specs.declared.writing.Written.TheVariants.{Length, Refused}
+use Rattle.std.specs.Prelude.{Ok, Err}
 use Rattle.rules.specs.declared.lists.RuleList.{RuleList}
 use Rattle.rule_text.specs.Reading.{SameRules, read_lines, read_rules}
 use Rattle.rule_text.specs.Writing.{text_of, written_rules, lent_after_rules}
-use Rattle.rule_text.specs.declared.reading.LoadedRules.{LoadedRules}
+use Rattle.rule_text.specs.Reading.{LoadedRules}
 use Rattle.rule_text.proofs.Loaded.{loaded-list}
 use Rattle.rule_text.proofs.Back.{write-back, read_back, read-back-same, read-accepted}
 use Rattle.rule_text.proofs.Room.{written, written-length, refused-18, refused-leaves}
@@ -28,7 +28,7 @@ module _ (text lent : List ℕ) (whole : (read_rules text).number ≡ 0) where
       (written (read_rules text).list lent (read-accepted text) (rw same_text fits))
 
   -- into a shorter one: 18, and every byte stays
-  pub text-short : length lent < length text → (written_rules (read_rules text).list lent ≡ Refused 18) × (lent_after_rules (read_rules text).list lent ≡ lent)
+  pub text-short : length lent < length text → (written_rules (read_rules text).list lent ≡ Err 18) × (lent_after_rules (read_rules text).list lent ≡ lent)
   text-short short =
       let refused = (refused-18 (read_rules text).list lent).1 (read-accepted text, rw same_text short) in
       (refused, refused-leaves (read_rules text).list lent 18 refused)
@@ -36,7 +36,7 @@ module _ (text lent : List ℕ) (whole : (read_rules text).number ≡ 0) where
 -- ---- written, then read
 
 -- the bytes that were written are accepted, and read as the same list
-pub list_back : (list : RuleList) → length list.slots ≡ 128 → length list.rights ≡ 6 → (lent : List ℕ) (n : ℕ) → written_rules list lent ≡ Length n
+pub list_back : (list : RuleList) → length list.slots ≡ 128 → length list.rights ≡ 6 → (lent : List ℕ) (n : ℕ) → written_rules list lent ≡ Ok n
     → ((read_rules (take n (lent_after_rules list lent))).number ≡ 0) × SameRules list (read_rules (take n (lent_after_rules list lent))).list
 list_back list slots kinds lent n answer =
     let fits = (written-length list lent n).0 answer in

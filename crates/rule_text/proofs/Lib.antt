@@ -3,6 +3,7 @@ pub mod Values
 pub mod Ranges
 pub mod LineTables
 pub mod Inverse
+pub mod FoundLines
 pub mod RightLines
 pub mod Causes
 pub mod RightLists

@@ -17,7 +17,7 @@ use Rattle.rule_text.specs.Lines.{rule_text, list_text, right_text, rights_text,
 use Rattle.rule_text.specs.Reading.{read_line, RulesRead, LinesRead, read_from, read_rights, rights_then, read_lines}
 use Rattle.rule_text.specs.Causes.{RuleStands, RightStands, Misplaced, second_of_kind, out_of_order, after_rule, Cause, no_form, out_of_range, not_next, misplaced, same_twice, unsound, GoodLine, RightsEnd, GoodLines}
 use Rattle.rule_text.specs.declared.reading.Parsed.{Parsed}
-use Rattle.rule_text.specs.declared.reading.LineRead.TheVariants.{Good}
+use Rattle.std.specs.Prelude.{Ok}
 use Rattle.rule_text.specs.declared.rights.RightsRead.{RightsRead}
 use Rattle.rule_text.proofs.NumberedLines.{LineStands, Language, RulesReads, reads-from, lines-whole, lines-until}
 use Rattle.rule_text.proofs.Causes.{line_refused, line-good, cause-ends, has-cause}
@@ -46,7 +46,7 @@ good-accepted {n} {text} {entry} good =
 
 -- ---- the gate's own lines, as a language
 
-good-stands : (n : ℕ) (text : List ℕ) (entry : Parsed) → read_line n text ≡ Good entry → LineStands rule_text rule_accepted n text entry
+good-stands : (n : ℕ) (text : List ℕ) (entry : Parsed) → read_line n text ≡ Ok entry → LineStands rule_text rule_accepted n text entry
 good-stands n text entry e =
     let good = (line-good n text entry).0 e in
     record {
@@ -58,7 +58,7 @@ good-stands n text entry e =
       length = good.length;
     }
 
-stands_good : (n : ℕ) (text : List ℕ) (entry : Parsed) → LineStands rule_text rule_accepted n text entry → read_line n text ≡ Good entry
+stands_good : (n : ℕ) (text : List ℕ) (entry : Parsed) → LineStands rule_text rule_accepted n text entry → read_line n text ≡ Ok entry
 stands_good n text entry line =
     let rule = entry.rule in
     let parts = both (rule_in_range rule) (rule_distinct rule && rule_sound rule) line.passed in

@@ -16,8 +16,7 @@ use Rattle.rules.specs.declared.families.Rule.{Rule}
 use Rattle.rule_text.specs.Lines.{list_text}
 use Rattle.rule_text.specs.Reading.{RulesRead, stopped, length_in, line_then, read_from}
 use Rattle.rule_text.specs.declared.reading.Parsed.{Parsed}
-use Rattle.rule_text.specs.declared.reading.LineRead.{LineRead}
-use Rattle.rule_text.specs.declared.reading.LineRead.TheVariants.{Good, Bad}
+use Rattle.std.specs.Prelude.{Result, Ok, Err}
 
 -- ---- a language
 
@@ -32,24 +31,24 @@ pub record LineStands (write : ℕ → Rule → List ℕ) (passes : Rule → Boo
 
 -- a line is good exactly where it stands there, and is refused exactly where it has the cause of the number; `Ready` is what has to be known
 -- of a place for the latter, and is always known after the first line
-pub record Language (read : ℕ → List ℕ → LineRead) (write : ℕ → Rule → List ℕ) (passes : Rule → Bool) (Cause : ℕ → List ℕ → ℕ → Type 0)
+pub record Language (read : ℕ → List ℕ → Result Parsed ℕ) (write : ℕ → Rule → List ℕ) (passes : Rule → Bool) (Cause : ℕ → List ℕ → ℕ → Type 0)
     (Ready : ℕ → List ℕ → Type 0) : Type 0 where
   pub later : (n : ℕ) (text : List ℕ) → 1 < n → Ready n text
-  pub good-stands : (n : ℕ) (text : List ℕ) (entry : Parsed) → read n text ≡ Good entry → LineStands write passes n text entry
-  pub stands_good : (n : ℕ) (text : List ℕ) (entry : Parsed) → LineStands write passes n text entry → read n text ≡ Good entry
-  pub bad-cause : (n : ℕ) (text : List ℕ) (number : ℕ) → Ready n text → read n text ≡ Bad number → Cause n text number
-  pub cause-bad : (n : ℕ) (text : List ℕ) (number : ℕ) → Cause n text number → read n text ≡ Bad number
+  pub good-stands : (n : ℕ) (text : List ℕ) (entry : Parsed) → read n text ≡ Ok entry → LineStands write passes n text entry
+  pub stands_good : (n : ℕ) (text : List ℕ) (entry : Parsed) → LineStands write passes n text entry → read n text ≡ Ok entry
+  pub bad-cause : (n : ℕ) (text : List ℕ) (number : ℕ) → Ready n text → read n text ≡ Err number → Cause n text number
+  pub cause-bad : (n : ℕ) (text : List ℕ) (number : ℕ) → Cause n text number → read n text ≡ Err number
   pub some : (n : ℕ) (rule : Rule) → 1 ≤ n → n ≤ 128 → passes rule ≡ true → 0 < length (write n rule)
 
 -- ---- one line more
 
-pub step : (read : ℕ → List ℕ → LineRead) (bound n : ℕ) (s : List ℕ) → 0 < length s
+pub step : (read : ℕ → List ℕ → Result Parsed ℕ) (bound n : ℕ) (s : List ℕ) → 0 < length s
     → read_from read (suc bound) n s ≡ line_then (read n s) (read_from read bound (suc n) (drop (length_in (read n s)) s))
 unfolding read_from
 step read bound n [] some = absurd (omega arith)
 step read bound n (c ∷ s) some = refl
 
-nothing_left : (read : ℕ → List ℕ → LineRead) (bound n : ℕ) → read_from read bound n [] ≡ stopped 0
+nothing_left : (read : ℕ → List ℕ → Result Parsed ℕ) (bound n : ℕ) → read_from read bound n [] ≡ stopped 0
 unfolding read_from
 nothing_left read zero n = refl
 nothing_left read (suc bound) n = refl
@@ -67,12 +66,12 @@ pub record RulesReads (write : ℕ → Rule → List ℕ) (passes : Rule → Boo
 abbrev pub preceded : (ℕ → Rule → List ℕ) → List Rule → ℕ → RulesRead → RulesRead
 preceded write rules n lines = record { rules = rules ++ lines.rules; length = length (list_text write n rules) + lines.length; number = lines.number }
 
-module _ {read : ℕ → List ℕ → LineRead} {write : ℕ → Rule → List ℕ} {passes : Rule → Bool} {Cause : ℕ → List ℕ → ℕ → Type 0} {Ready : ℕ → List ℕ → Type 0}
+module _ {read : ℕ → List ℕ → Result Parsed ℕ} {write : ℕ → Rule → List ℕ} {passes : Rule → Bool} {Cause : ℕ → List ℕ → ℕ → Type 0} {Ready : ℕ → List ℕ → Type 0}
     (language : Language read write passes Cause Ready) where
   -- ---- good lines are read
 
   good-line : (n : ℕ) (rule : Rule) (rest : List ℕ) → 1 ≤ n → n ≤ 128 → passes rule ≡ true
-      → read n (write n rule ++ rest) ≡ Good (record { rule = rule; length = length (write n rule) })
+      → read n (write n rule ++ rest) ≡ Ok (record { rule = rule; length = length (write n rule) })
   good-line n rule rest first last passed =
       language.stands_good n (write n rule ++ rest) (record { rule = rule; length = length (write n rule) })
       (record { first = first; last = last; passed = passed; rest = rest; reads = refl; length = refl })
@@ -106,7 +105,7 @@ module _ {read : ℕ → List ℕ → LineRead} {write : ℕ → Rule → List �
       record { passed = refl; few = omega arith; rest = text; reads = refl; bytes = refl; stops = inr (some, rw add-zero cause) }
 
   reads-good : (n : ℕ) (text : List ℕ) (entry : Parsed) (lines : RulesRead) → LineStands write passes n text entry
-      → RulesReads write passes Cause (suc n) (drop entry.length text) lines → RulesReads write passes Cause n text (line_then (Good entry) lines)
+      → RulesReads write passes Cause (suc n) (drop entry.length text) lines → RulesReads write passes Cause n text (line_then (Ok entry) lines)
   unfolding list_text every
   reads-good n text entry lines stands next =
       let left : drop entry.length text ≡ stands.rest = rw (stands.length, stands.reads) (drop-append_seam (write n entry.rule) stands.rest) in
@@ -128,11 +127,11 @@ module _ {read : ℕ → List ℕ → LineRead} {write : ℕ → Rule → List �
       go (read n (c ∷ text)) refl
       (λ last. reads-from bound (suc n) (drop (length_in (read n (c ∷ text))) (c ∷ text)) (omega arith) last (omega arith) (language.later (suc n) (drop (length_in (read n (c ∷ text))) (c ∷ text)) (omega arith)))
     where
-      go : (line : LineRead) → read n (c ∷ text) ≡ line
+      go : (line : Result Parsed ℕ) → read n (c ∷ text) ≡ line
           → (suc n ≤ 129 → RulesReads write passes Cause (suc n) (drop (length_in line) (c ∷ text)) (read_from read bound (suc n) (drop (length_in line) (c ∷ text))))
           → RulesReads write passes Cause n (c ∷ text) (line_then line (read_from read bound (suc n) (drop (length_in line) (c ∷ text))))
-      go (Bad number) e next = reads-bad n (c ∷ text) number most (omega arith) (language.bad-cause n (c ∷ text) number ready e)
-      go (Good entry) e next =
+      go (Err number) e next = reads-bad n (c ∷ text) number most (omega arith) (language.bad-cause n (c ∷ text) number ready e)
+      go (Ok entry) e next =
           let stands = language.good-stands n (c ∷ text) entry e in
           reads-good n (c ∷ text) entry (read_from read bound (suc n) (drop entry.length (c ∷ text))) stands (next (omega (arith, stands.last)))
 

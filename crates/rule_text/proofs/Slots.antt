@@ -41,7 +41,7 @@ list-rights rights rules = refl
 
 module _ (rights : List RightSlot) (rules : List Rule) (few : length rules ≤ 128) where
   -- the rules stand in the first slots, and the filler after them
-  slots-of-list : (list_of rights rules).slots ≡ map slot rules ++ drop (length rules) unused_slots
+  pub slots-of-list : (list_of rights rules).slots ≡ map slot rules ++ drop (length rules) unused_slots
   unfolding list_of
   slots-of-list =
       let z : 0 + length rules ≡ length rules = omega arith in
@@ -111,7 +111,7 @@ none-good = record {
 
 -- ---- a list and the list of its rules
 
-slots-again : (slots : List Slot) → map slot (map rule_of slots) ≡ slots
+pub slots-again : (slots : List Slot) → map slot (map rule_of slots) ≡ slots
 slots-again [] = refl
 slots-again (s ∷ slots) = ap (λ (l : List Slot). s ∷ l) (slots-again slots)
 

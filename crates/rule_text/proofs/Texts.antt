@@ -8,13 +8,13 @@ use native.Mathlib.Nat.{add-zero}
 use native.Mathlib.Numerals.{add-one}
 use native.Mathlib.Omega.{arith}
 use lib.ListN.{length, take, get_or, length-append, length-map}
-use lib.Seq.{take-suc, take_all, length-take-le}
+use lib.Seq.{take-suc, length-take-le}
 use lib.Dec.{leb}
 use borrow.Author.Tests.{leb-true}
 use Rattle.sets.proofs.Booleans.{both}
 use Rattle.forms.specs.Forms.{fill, all_in_range}
 use Rattle.forms.specs.Tables.{lines_in, form_at}
-use Rattle.forms.specs.Writing.{Wrote, last_place}
+use Rattle.forms.specs.Writing.{last_place}
 use Rattle.rules.specs.Acceptance.{rule_in_range, rule_distinct, rule_sound, rule_of, rule_accepted, right_at, right_accepted, every, rules_of, list_accepted}
 use Rattle.rules.specs.declared.families.Rule.{Rule}
 use Rattle.rules.specs.declared.rights.Right.{Right}
@@ -31,10 +31,13 @@ use Rattle.rule_text.proofs.Inverse.{form-of-rule, rule-line-in-range}
 use Rattle.rule_text.proofs.RightLines.{right-in-range}
 use Rattle.rule_text.proofs.Slots.{accepted-good}
 
+-- for the check itself
+pub ruleset no_line = (nothing_written)
+
 -- ---- rule by rule
 
 -- the first i rules
-abbrev first_rules : ℕ → List Slot → List Rule
+abbrev pub first_rules : ℕ → List Slot → List Rule
 first_rules i slots = map rule_of (take i slots)
 
 map_more : (slots : List Slot) (s : Slot) → map rule_of (slots ++ (s ∷ [])) ≡ map rule_of slots ++ (s.rule ∷ [])
@@ -51,35 +54,11 @@ module _ (line : ℕ → Rule → List ℕ) where
       rw (text-more (suc n) rules rule, e, append_assoc)
 
   -- the text of one rule more
-  next-text : (slots : List Slot) (i : ℕ) (s : Slot) → i < length slots
+  pub next-text : (slots : List Slot) (i : ℕ) (s : Slot) → i < length slots
       → list_text line 1 (first_rules (i + 1) slots) ≡ list_text line 1 (first_rules i slots) ++ line (i + 1) (get_or slots i s).rule
   next-text slots i s h =
       let e : 1 + length (first_rules i slots) ≡ suc i = omega (arith, length-map (take i slots) rule_of, length-take-le i slots (omega arith)) in
       rw (add-one, take-suc slots i s h, map_more (take i slots) (get_or slots i s)) (rw e at (text-more 1 (first_rules i slots) (get_or slots i s).rule))
-
-  -- a loop that writes the rules: the first i of them are written
-  pub record Inv (lent : List ℕ) (start : ℕ) (list : RuleList) (out : List ℕ) (at i : ℕ) : Type 0 where
-    pub within : i ≤ list.length
-    pub written : Wrote lent start (list_text line 1 (first_rules i list.slots)) at out
-
-  pub start : (lent : List ℕ) (at : ℕ) (list : RuleList) → at ≤ last_place → Inv lent at list lent at 0
-  unfolding list_text
-  start lent at list h = record { within = omega arith; written = nothing_written lent at h }
-
-  pub turn : {lent : List ℕ} {start : ℕ} {list : RuleList} {out : List ℕ} {at i : ℕ} → Inv lent start list out at i → length lent ≤ last_place → length list.slots ≡ 128 → list.length ≤ 128 → i < list.length
-      → (s : Slot) {at' : ℕ} {out' : List ℕ} → Wrote out at (line (i + 1) (get_or list.slots i s).rule) at' out' → Inv lent start list out' at' (i + 1)
-  turn {lent} {start} {list} {out} {at} {i} inv small slots most more s w = record {
-    within = omega arith;
-    written = like (next-text list.slots i s (omega arith)) (then small inv.written w);
-  }
-
-  pub end : {lent : List ℕ} {start : ℕ} {list : RuleList} {out : List ℕ} {at i : ℕ} → Inv lent start list out at i → list.length ≤ i → Wrote lent start (list_text line 1 (rules_of list)) at out
-  end {lent} {start} {list} {out} {at} {i} inv done =
-      let all : i ≡ list.length = omega (arith, inv.within) in
-      rw all at inv.written
-
-  pub same_size : {lent : List ℕ} {start : ℕ} {list : RuleList} {out : List ℕ} {at i : ℕ} → Inv lent start list out at i → length out ≡ length lent
-  same_size inv = same_length inv.written
 
   -- where no line of an accepted rule has more than 600 bytes
   pub rules-short : ((n : ℕ) (rule : Rule) → 1 ≤ n → n ≤ 128 → rule_in_range rule ≡ true → length (line n rule) ≤ 600)
@@ -101,33 +80,11 @@ rights-more kind (s ∷ slots) slot =
     rw (rights-more (suc kind) slots slot, e, append_assoc)
 
 -- the text of one right more
-next-right : (slots : List RightSlot) (kind : ℕ) (s : RightSlot) → kind < length slots
+pub next-right : (slots : List RightSlot) (kind : ℕ) (s : RightSlot) → kind < length slots
     → rights_text 0 (take (kind + 1) slots) ≡ rights_text 0 (take kind slots) ++ right_text kind (get_or slots kind s).right
 next-right slots kind s h =
     let e : 0 + length (take kind slots) ≡ kind = omega (arith, length-take-le kind slots (omega arith)) in
     rw (add-one, take-suc slots kind s h) (rw e at (rights-more 0 (take kind slots) (get_or slots kind s)))
-
--- the loop of `put_rights`: the rights of the kinds below one are written
-pub record RightsInv (lent : List ℕ) (rights : List RightSlot) (out : List ℕ) (at kind : ℕ) : Type 0 where
-  pub within : kind ≤ 6
-  pub written : Wrote lent 0 (rights_text 0 (take kind rights)) at out
-
-pub rights-start : (lent : List ℕ) (rights : List RightSlot) → RightsInv lent rights lent 0 0
-unfolding rights_text
-rights-start lent rights = record { within = omega arith; written = nothing_written lent 0 (omega arith) }
-
-pub rights-turn : {lent : List ℕ} {rights : List RightSlot} {out : List ℕ} {at kind : ℕ} → RightsInv lent rights out at kind → length lent ≤ last_place → length rights ≡ 6 → kind < 6
-    → (s : RightSlot) {at' : ℕ} {out' : List ℕ} → Wrote out at (right_text kind (get_or rights kind s).right) at' out' → RightsInv lent rights out' at' (kind + 1)
-rights-turn {lent} {rights} {out} {at} {kind} inv small six more s w = record {
-  within = omega arith;
-  written = like (next-right rights kind s (omega arith)) (then small inv.written w);
-}
-
-pub rights-written : {lent : List ℕ} {rights : List RightSlot} {out : List ℕ} {at kind : ℕ} → RightsInv lent rights out at kind → length rights ≡ 6 → 6 ≤ kind → Wrote lent 0 (rights_text 0 rights) at out
-rights-written {lent} {rights} {out} {at} {kind} inv six done = rw (take_all kind rights (omega arith)) at inv.written
-
-pub rights-size : {lent : List ℕ} {rights : List RightSlot} {out : List ℕ} {at kind : ℕ} → RightsInv lent rights out at kind → length out ≡ length lent
-rights-size inv = same_length inv.written
 
 -- ---- the length of a text
 

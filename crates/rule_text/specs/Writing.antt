@@ -2,7 +2,7 @@
 -- Assumes nothing.
 use Rattle.std.specs.Prelude.{cond, List, ℕ, length}
 use Rattle.forms.specs.Writing.{written_if, lent_if}
-use Rattle.forms.specs.declared.writing.Written.{Written}
+use Rattle.std.specs.Prelude.{Result}
 use Rattle.rules.specs.Acceptance.{rules_of, list_accepted}
 use Rattle.rules.specs.declared.lists.RuleList.{RuleList}
 use Rattle.rule_text.specs.Lines.{lines_text}
@@ -15,7 +15,7 @@ text_of list = lines_text list.rights (rules_of list)
 unfoldable pub rules_length : RuleList → ℕ
 rules_length list = cond (list_accepted list) (length (text_of list)) 0
 
-unfoldable pub written_rules : RuleList → List ℕ → Written
+unfoldable pub written_rules : RuleList → List ℕ → Result ℕ ℕ
 written_rules list lent = written_if (list_accepted list) (text_of list) lent
 
 unfoldable pub lent_after_rules : RuleList → List ℕ → List ℕ

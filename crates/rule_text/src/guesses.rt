@@ -7,8 +7,7 @@ pub(crate) fn likely_form(text: &[u8], number: u64) -> usize {
         return likely_right(text);
     }
     let at = word_start(number);
-    let first = byte_at(text, at);
-    match first {
+    match byte_at(text, at) {
         b'b' => 0,
         b'm' => likely_limit(byte_at(text, at + 4)),
         b'a' => likely_apart(text, at),
@@ -21,8 +20,7 @@ pub(crate) fn likely_form(text: &[u8], number: u64) -> usize {
 
 // `assign`, `withdraw`, `grant`, `take`, `lend`, `recall`, after `(right `
 pub(crate) fn likely_right(text: &[u8]) -> usize {
-    let first = byte_at(text, 7);
-    match first {
+    match byte_at(text, 7) {
         b'a' => 19,
         b'w' => 20,
         b'g' => 21,
@@ -35,13 +33,11 @@ pub(crate) fn likely_right(text: &[u8]) -> usize {
 fn word_start(number: u64) -> usize
     ensures { result ≤ 11 }
 {
-    if number < 10 {
-        return 9;
+    match number {
+        0..=9 => 9,
+        10..=99 => 10,
+        _ => 11,
     }
-    if number < 100 {
-        return 10;
-    }
-    11
 }
 
 // `max-users`, `max-roles`, `max-permissions`, `max-active`
@@ -91,10 +87,7 @@ fn likely_side(text: &[u8], at: usize) -> usize
 fn likely_shape(letter: u8) -> usize
     ensures { result ≤ 1 }
 {
-    if letter == b'b' {
-        return 1;
-    }
-    0
+    usize::from(letter == b'b')
 }
 
 // What follows a role of one or two digits and ` (`.
@@ -112,8 +105,5 @@ fn after_role(text: &[u8], at: usize) -> usize
 pub(crate) fn byte_at(text: &[u8], i: usize) -> u8
     ensures { result ≡ get_or text.now i 0 }
 {
-    if i < text.len() {
-        return text[i];
-    }
-    0
+    text.get(i).copied().unwrap_or(0)
 }

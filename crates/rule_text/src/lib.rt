@@ -4,12 +4,12 @@
 mod guesses;
 mod lines;
 mod reading;
+mod refusals;
 mod rights;
 mod writing;
 
 pub use lines::{Line, filler, line_of, narrow, short_line};
-pub use reading::{
-    LineRead, LoadedRules, Parsed, Prefix, no_rules, number_in, read_prefix, read_rules, rule_read,
-};
+pub use reading::{Parsed, Prefix, no_rules, read_prefix, read_rules, rule_read};
+pub use refusals::{BadLine, Refusal};
 pub use rights::line_count;
 pub use writing::{rules_length, write_rules};

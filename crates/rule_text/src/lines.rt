@@ -36,8 +36,6 @@ pub const FORMS: [u8; 666] = *b"\
 (right lend %)\n\
 (right recall %)\n";
 
-pub const FORM_COUNT: usize = 25;
-
 // The forms of rules come first, and a form for each kind of right after them.
 pub const RULE_FORM_COUNT: usize = 19;
 
@@ -48,13 +46,14 @@ pub const STARTS: [usize; 26] = [
 ];
 
 // A form and its values, a rule's own number first, 0 where the form has fewer than six.
-#[derive(Clone, Copy)]
+#[derive(Clone, Copy, Debug, PartialEq, Eq)]
 pub struct Line {
     pub form: usize,
     pub values: [u64; 6],
 }
 
-// The line with this form and these values.
+// The line with this form and these values. There are three such functions and not one generic: the places of a line hold numbers of two
+// widths and coordinates.
 fn full_line(
     form: usize,
     number: u64,
@@ -111,6 +110,7 @@ pub(crate) fn right_line(kind: usize, permission: u32) -> Line
 }
 
 // The line of a rule under its number.
+#[tactic(auto, unfolding(crate::specs::Lines::line_of))]
 pub fn line_of(number: u64, rule: Rule) -> Line
     ensures { result ≡ line_of number rule }
 {
@@ -131,6 +131,7 @@ pub fn line_of(number: u64, rule: Rule) -> Line
 }
 
 // The line of a rule `during`: the form of its term, the role, the numbers of the term.
+#[tactic(auto, unfolding(crate::specs::Lines::line_of))]
 fn term_line(number: u64, role: u32, term: Term) -> Line
     ensures { result ≡ line_of number (TimeContext role term) }
 {
@@ -149,28 +150,31 @@ fn term_line(number: u64, role: u32, term: Term) -> Line
 }
 
 // The line of a rule `at`: the form of its side and shape, the role, the numbers of the shape.
+#[tactic(auto, unfolding(crate::specs::Lines::line_of))]
 fn side_line(number: u64, role: u32, side: Side) -> Line
     ensures { result ≡ line_of number (LocationContext role side) }
 {
     match side {
-        Side::Inside(shape) => match shape {
-            Shape::Circle { x, y, radius } => circle_line(13, number, role, x, y, radius),
+        Side::Inside(Shape::Circle { x, y, radius }) => circle_line(13, number, role, x, y, radius),
+        Side::Inside(
             Shape::Box {
                 left,
                 bottom,
                 right,
                 top,
-            } => box_line(14, number, role, left, bottom, right, top),
-        },
-        Side::Outside(shape) => match shape {
-            Shape::Circle { x, y, radius } => circle_line(15, number, role, x, y, radius),
+            },
+        ) => box_line(14, number, role, left, bottom, right, top),
+        Side::Outside(Shape::Circle { x, y, radius }) => {
+            circle_line(15, number, role, x, y, radius)
+        }
+        Side::Outside(
             Shape::Box {
                 left,
                 bottom,
                 right,
                 top,
-            } => box_line(16, number, role, left, bottom, right, top),
-        },
+            },
+        ) => box_line(16, number, role, left, bottom, right, top),
     }
 }
 
@@ -178,9 +182,15 @@ fn side_line(number: u64, role: u32, side: Side) -> Line
 fn circle_line(form: usize, number: u64, role: u32, x: i32, y: i32, radius: u32) -> Line
     ensures { result ≡ line form (number ∷ role ∷ signed_code x ∷ signed_code y ∷ radius ∷ 0 ∷ []) }
 {
-    let x_code = forms::signed_code(x);
-    let y_code = forms::signed_code(y);
-    full_line(form, number, role as u64, x_code, y_code, radius as u64, 0)
+    full_line(
+        form,
+        number,
+        role as u64,
+        forms::signed_code(x),
+        forms::signed_code(y),
+        radius as u64,
+        0,
+    )
 }
 
 // The line of a box; each coordinate as the value that stands for it.
@@ -195,18 +205,14 @@ fn box_line(
 ) -> Line
     ensures { result ≡ line form (number ∷ role ∷ signed_code left ∷ signed_code bottom ∷ signed_code right ∷ signed_code top ∷ []) }
 {
-    let left_code = forms::signed_code(left);
-    let bottom_code = forms::signed_code(bottom);
-    let right_code = forms::signed_code(right);
-    let top_code = forms::signed_code(top);
     full_line(
         form,
         number,
         role as u64,
-        left_code,
-        bottom_code,
-        right_code,
-        top_code,
+        forms::signed_code(left),
+        forms::signed_code(bottom),
+        forms::signed_code(right),
+        forms::signed_code(top),
     )
 }
 
@@ -225,6 +231,7 @@ pub fn narrow(value: u64) -> u32
 }
 
 // The rule with that form and those values.
+#[tactic(auto, unfolding(crate::specs::Lines::rule_of_form))]
 pub fn rule_of(form: usize, values: &[u64; 6]) -> Rule
     ensures { result ≡ rule_of_form form values.now }
 {
@@ -251,6 +258,7 @@ pub fn rule_of(form: usize, values: &[u64; 6]) -> Rule
 }
 
 // The rules on roles from `max-users` to `needs`.
+#[tactic(auto, unfolding(crate::specs::Lines::rule_of_form))]
 fn role_rule(form: usize, values: &[u64; 6]) -> Rule
     requires { (1 ≤ form) × (form < 8) }
     ensures { result ≡ rule_of_form form values.now }
@@ -278,6 +286,7 @@ fn role_rule(form: usize, values: &[u64; 6]) -> Rule
 }
 
 // The term of a rule `during`.
+#[tactic(auto, unfolding(crate::specs::Lines::rule_of_form))]
 fn term_of(form: usize, values: &[u64; 6]) -> Term
     requires { (8 ≤ form) × (form < 13) }
     ensures { TimeContext (narrow (get_or values.now 1 0)) result ≡ rule_of_form form values.now }
@@ -311,6 +320,7 @@ fn term_of(form: usize, values: &[u64; 6]) -> Term
 }
 
 // The side of a rule `at`.
+#[tactic(auto, unfolding(crate::specs::Lines::rule_of_form))]
 fn side_of(form: usize, values: &[u64; 6]) -> Side
     requires { (13 ≤ form) × (form < 17) }
     ensures { LocationContext (narrow (get_or values.now 1 0)) result ≡ rule_of_form form values.now }

@@ -1,14 +1,14 @@
 // Reading the rights of a rule list: the lines before its rules, at most one a kind, in the order of the kinds.
 ghost use Rattle.std.specs.Prelude.{◌≡◌, ◌≤◌, ◌<◌};
 ghost use Rattle.rule_text.specs.Lines.{line_count};
-ghost use Rattle.rule_text.specs.Reading.{no_right, read_right, read_rights};
+ghost use Rattle.rule_text.specs.Reading.{right_told, read_right, read_rights};
 
 use crate::guesses::{byte_at, likely_right};
 use crate::lines;
 use crate::lines::{FORMS, RULE_FORM_COUNT, STARTS};
 use rules::{Right, RightSlot, RuleList};
 
-// The right of one kind, and how many bytes its line has: none where there is no such line.
+// The right of one kind, and how many bytes its line has.
 #[derive(Clone, Copy)]
 pub struct RightRead {
     pub right: Right,
@@ -25,35 +25,24 @@ pub struct RightsRead {
 
 // The kind's right where its line stands at the front of a text and its permission is in range; else there is none. What stands there
 // then is told where it is read as the line of a rule. The third byte tells `(right` from `(rule`.
-fn read_right(kind: usize, text: &[u8]) -> RightRead
+fn read_right(kind: usize, text: &[u8]) -> Option<RightRead>
     requires { kind < 6 }
-    ensures { result ≡ read_right kind text.now }
+    ensures { right_told result ≡ read_right kind text.now }
 {
     if byte_at(text, 2) != b'i' {
-        return no_right();
+        return None;
     }
-    let found = forms::find_likely(&FORMS, &STARTS, likely_right(text), text);
-    let form = found.form;
-    let values = found.values;
-    if form != RULE_FORM_COUNT + kind {
-        return no_right();
+    let found = forms::find_likely(&FORMS, &STARTS, likely_right(text), text)?;
+    if found.form != RULE_FORM_COUNT + kind {
+        return None;
     }
-    if !forms::line_in_range(&FORMS, &STARTS, form, &values) {
-        return no_right();
+    if !forms::line_in_range(&FORMS, &STARTS, found.form, &found.values) {
+        return None;
     }
-    RightRead {
-        right: Right::Permission(lines::narrow(values[0])),
+    Some(RightRead {
+        right: Right::Permission(lines::narrow(found.values[0])),
         length: found.length,
-    }
-}
-
-fn no_right() -> RightRead
-    ensures { result ≡ no_right }
-{
-    RightRead {
-        right: Right::Unstated,
-        length: 0,
-    }
+    })
 }
 
 // A right has one line, and none where it is not stated.
@@ -77,16 +66,13 @@ pub fn read_rights(text: &[u8]) -> RightsRead
         length: 0,
         lines: 0,
     };
-    let mut kind: usize = 0;
-    while kind < RuleList::RIGHTS {
-        let start = read.length;
-        let answer = read_right(kind, &text[start..]);
-        let right = answer.right;
-        read.rights[kind] = RightSlot { right };
-        read.length = start + answer.length;
-        let lines = read.lines;
-        read.lines = lines + line_count(right);
-        kind += 1;
+    for kind in 0..RuleList::RIGHTS {
+        let rest = &text[read.length..];
+        if let Some(line) = read_right(kind, rest) {
+            read.rights[kind] = RightSlot { right: line.right };
+            read.length += line.length;
+            read.lines += line_count(line.right);
+        }
     }
     read
 }

@@ -1,24 +1,25 @@
 // Writing a rule list: 40, then 18, or its text.
-ghost use Rattle.std.specs.Prelude.{◌≡◌, ◌≤◌, ◌<◌};
+ghost use Rattle.std.specs.Prelude.{◌≡◌, ◌<◌};
 ghost use Rattle.forms.specs.Writing.{Wrote};
+ghost use Rattle.forms.specs.Refusals.{numbered, write_number};
 ghost use Rattle.rules.specs.Acceptance.{rules_of};
 ghost use Rattle.rule_text.specs.Lines.{line_text, right_text, rights_text, rule_text, list_text};
 ghost use Rattle.rule_text.specs.Writing.{text_of, rules_length, written_rules, lent_after_rules};
 
 use crate::lines;
 use crate::lines::{FORMS, Line, STARTS};
-use forms::Written;
+use forms::WriteRefusal;
 use rules::{Right, RightSlot, Rule, RuleList};
 
 // Writes one line at a place, and returns the place after it. A byte past the end is left out.
 fn put_line(line: Line, out: &mut [u8], at: usize) -> usize
     ensures { Wrote out.old at (line_text line) result out.new }
 {
-    let values = line.values;
-    forms::write_line(&FORMS, &STARTS, line.form, &values, out, at)
+    forms::write_line(&FORMS, &STARTS, line.form, &line.values, out, at)
 }
 
 // A kind that has no right has no line.
+#[tactic(auto, using(crate::proofs::Texts::no_line), unfolding(crate::specs::Lines::right_text))]
 fn put_right(kind: usize, right: Right, out: &mut [u8], at: usize) -> usize
     requires { kind < 6 }
     ensures { Wrote out.old at (right_text kind right) result out.new }
@@ -30,20 +31,17 @@ fn put_right(kind: usize, right: Right, out: &mut [u8], at: usize) -> usize
 }
 
 // Writes the lines of the rights from the first byte on, and returns where they end.
-fn put_rights(rights: [RightSlot; 6], out: &mut [u8]) -> usize
-    ensures { Wrote out.old 0 (rights_text 0 rights) result out.new }
+fn put_rights(rights: &[RightSlot; 6], out: &mut [u8]) -> usize
+    ensures { Wrote out.old 0 (rights_text 0 rights.now) result out.new }
 {
-    let mut at: usize = 0;
-    let mut kind: usize = 0;
-    while kind < RuleList::RIGHTS {
-        let slot = rights[kind];
-        let right = slot.right;
-        at = put_right(kind, right, out, at);
-        kind += 1;
+    let mut at = 0;
+    for (kind, slot) in rights.iter().enumerate() {
+        at = put_right(kind, slot.right, out, at);
     }
     at
 }
 
+#[tactic(auto, unfolding(crate::specs::Lines::rule_text))]
 fn put_rule(number: u64, rule: Rule, out: &mut [u8], at: usize) -> usize
     ensures { Wrote out.old at (rule_text number rule) result out.new }
 {
@@ -51,29 +49,21 @@ fn put_rule(number: u64, rule: Rule, out: &mut [u8], at: usize) -> usize
 }
 
 // Writes the lines of the rules from a place on, and returns where they end.
-fn put_rules(list: RuleList, out: &mut [u8], start: usize) -> usize
-    requires { list.length ≤ 128 }
-    ensures { Wrote out.old start (list_text rule_text 1 (rules_of list)) result out.new }
+fn put_rules(list: &RuleList, out: &mut [u8], start: usize) -> usize
+    ensures { Wrote out.old start (list_text rule_text 1 (rules_of list.now)) result out.new }
 {
-    let length = list.length;
     let mut at = start;
-    let mut i: usize = 0;
-    while i < length {
-        let slot = list.slots[i];
-        let rule = slot.rule;
-        i += 1;
-        at = put_rule(i as u64, rule, out, at);
+    for (i, slot) in list.used().iter().enumerate() {
+        at = put_rule(i as u64 + 1, slot.rule, out, at);
     }
     at
 }
 
 // Writes the lines of a list from the first byte on, the rights before the rules, and returns where they end.
-fn put_list(list: RuleList, out: &mut [u8]) -> usize
-    requires { list.length ≤ 128 }
-    ensures { Wrote out.old 0 (text_of list) result out.new }
+fn put_list(list: &RuleList, out: &mut [u8]) -> usize
+    ensures { Wrote out.old 0 (text_of list.now) result out.new }
 {
-    let rights = list.rights;
-    let at = put_rights(rights, out);
+    let at = put_rights(&list.rights, out);
     put_rules(list, out, at)
 }
 
@@ -85,20 +75,19 @@ pub fn rules_length(list: RuleList) -> usize
         return 0;
     }
     let mut space = [0u8; 1];
-    put_list(list, &mut space)
+    put_list(&list, &mut space)
 }
 
 // Writes a rule list. Its length is measured in the empty part of the lent space, so that a refusal leaves every byte.
-pub fn write_rules(list: RuleList, out: &mut [u8]) -> Written
-    ensures { (result ≡ written_rules list out.old) × (out.new ≡ lent_after_rules list out.old) }
+pub fn write_rules(list: RuleList, out: &mut [u8]) -> Result<usize, WriteRefusal>
+    ensures { (numbered write_number result ≡ written_rules list out.old) × (out.new ≡ lent_after_rules list out.old) }
 {
     if !list.is_accepted() {
-        return Written::Refused(40);
+        return Err(WriteRefusal::NotAccepted);
     }
-    let needed = put_list(list, &mut out[..0]);
+    let needed = put_list(&list, &mut out[..0]);
     if out.len() < needed {
-        return Written::Refused(18);
+        return Err(WriteRefusal::NoRoom);
     }
-    let length = put_list(list, out);
-    Written::Length(length)
+    Ok(put_list(&list, out))
 }

@@ -9,9 +9,8 @@ use borrow.Author.Tests.{eqb-true}
 use Rattle.sets.proofs.Booleans.{both}
 use Rattle.calendar.specs.Days.{weekday_of, leap_year, year_start, common_start, month_start, month_end, is_day_of_month, is_date, day_number, day_of_date, last_started, year_of, month_of, date_in, date_of}
 use Rattle.calendar.specs.Terms.{from_to, minute_from_to, counted_weekday, at_moment, term_in_range, term_sound, term_holds}
-use Rattle.calendar.specs.declared.days.DayFound.{DayFound}
-use Rattle.calendar.specs.declared.days.DayFound.TheVariants.{Day, NoDate}
-use Rattle.places.specs.Places.{inside_circle, outside_circle, inside_box, outside_box, surely_inside, surely_outside, point_in_range, shape_in_range, shape_sound, locate}
+use Rattle.std.specs.Prelude.{Option, Some, None}
+use Rattle.places.specs.Places.{inside_circle, outside_circle, within_by, inside_box, beyond, outside_box, surely_inside, surely_outside, point_in_range, shape_in_range, shape_sound, locate}
 use Rattle.places.specs.declared.Position.TheVariants.{Known}
 use Rattle.places.specs.declared.Outcome.{Outcome}
 use Rattle.places.specs.declared.Outcome.TheVariants.{Inside, Outside, Unsure, Neither}
@@ -30,14 +29,14 @@ same_bool_lem true false e = absurd (false≢true e)
 same_bool_lem false true e = absurd (false≢true e)
 same_bool_lem false false e = refl
 
-is_day : DayFound → ℕ → Bool
-is_day (Day n) day = eqb n day
-is_day NoDate day = false
+is_day : Option ℕ → ℕ → Bool
+is_day (Some n) day = eqb n day
+is_day None day = false
 
-is-day : (found : DayFound) (day : ℕ) → is_day found day ≡ true → found ≡ Day day
+is-day : (found : Option ℕ) (day : ℕ) → is_day found day ≡ true → found ≡ Some day
 unfolding is_day
-is-day (Day n) day e = ap Day (eqb-true n day e)
-is-day NoDate day e = absurd (false≢true e)
+is-day (Some n) day e = ap Some (eqb-true n day e)
+is-day None day e = absurd (false≢true e)
 
 code : Outcome → ℕ
 code Inside = 0
@@ -90,5 +89,5 @@ each_holds (edge ∷ rest) e = let parts = both (passes edge) (all_pass rest) e 
 
 -- all starred edges hold
 pub edges-hold : EachHolds edges
-unfolding all_pass passes same_bool is_day code leap_year year_start common_start month_start month_end is_day_of_month is_date day_number day_of_date last_started year_of month_of date_in date_of from_to minute_from_to counted_weekday at_moment term_in_range term_sound term_holds inside_circle outside_circle inside_box outside_box surely_inside surely_outside point_in_range shape_in_range shape_sound locate
+unfolding all_pass passes same_bool is_day code leap_year year_start common_start month_start month_end is_day_of_month is_date day_number day_of_date last_started year_of month_of date_in date_of from_to minute_from_to counted_weekday at_moment term_in_range term_sound term_holds inside_circle outside_circle within_by inside_box beyond outside_box surely_inside surely_outside point_in_range shape_in_range shape_sound locate
 edges-hold = each_holds edges refl

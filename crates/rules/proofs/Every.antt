@@ -7,6 +7,9 @@ use Prim.Native.Nat.{ℕ, zero, suc, ◌+◌, ◌<◌}
 use native.Mathlib.Numerals.{add-one}
 use native.Mathlib.Omega.{arith}
 use lib.ListN.{take, length, get_or}
+use Rattle.std.proofs.lemmas.Grind.{common_steps}
+use Rattle.sets.specs.Sets.{all}
+use Rattle.sets.proofs.Bounded.{all-next}
 use Rattle.sets.proofs.Booleans.{both_true, left-true, right-true, not_so}
 use Rattle.rules.specs.Acceptance.{every, rule_of}
 use Rattle.rules.specs.declared.families.Rule.{Rule}
@@ -65,3 +68,17 @@ module _ (p : Rule → Bool) where
   -- one rule that fails is enough
   pub every-stop : (slots : List Slot) (n i : ℕ) (d : Slot) → i < n → i < length slots → p (rule_of (get_or slots i d)) ≡ false → every_first p n slots ≡ false
   every-stop slots n i d below within fails = not_so (every_first p n slots) (λ h. false≢true (sym fails ∙ every-at slots n i d below within h))
+
+  pub every_none : every p [] ≡ true
+  unfolding every
+  every_none = refl
+
+pub ruleset every_turns = (every_none, every-next, every-stop, common_steps)
+
+-- ---- and of every number below a bound
+
+pub all_none : (p : ℕ → Bool) → all 0 p ≡ true
+unfolding all
+all_none p = refl
+
+pub ruleset all_turns = (all_none, all-next, common_steps)

@@ -4,3 +4,5 @@ pub mod Every
 pub mod Acceptance
 pub mod Meaning
 pub mod Steps
+pub mod FirstFailing
+pub mod RuleLists

@@ -1,9 +1,8 @@
 -- Document 01, 'Edges', with requests 2026-03 and 2026-04: the starred ones, as one table. That each row holds is `edges-hold` of proofs/Edges.antt.
 -- Assumes nothing.
-use Rattle.std.specs.Prelude.{◌≡◌, Bool, true, false, List, [], ◌∷◌, ℕ, ◌+◌, ◌*◌, pos}
+use Rattle.std.specs.Prelude.{◌≡◌, Bool, true, false, List, [], ◌∷◌, ℕ, ◌+◌, ◌*◌, pos, Some}
 use Rattle.calendar.specs.Days.{day_of, weekday_of, day_of_date}
 use Rattle.calendar.specs.Terms.{term_holds}
-use Rattle.calendar.specs.declared.days.DayFound.TheVariants.{Day}
 use Rattle.calendar.specs.declared.terms.Term.{Term}
 use Rattle.calendar.specs.declared.terms.Term.TheVariants.{Week, Nth}
 use Rattle.places.specs.Places.{locate}
@@ -23,7 +22,7 @@ pub data Edge : Type 0 where
 -- what a row says
 abbrev pub Says : Edge → Type 0
 Says (weekday day value) = weekday_of day ≡ value
-Says (date yyyymmdd day) = day_of_date yyyymmdd ≡ Day day
+Says (date yyyymmdd day) = day_of_date yyyymmdd ≡ Some day
 Says (term k t value) = term_holds k t ≡ value
 Says (place shape point value) = locate shape (Known point) ≡ value
 

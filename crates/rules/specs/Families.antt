@@ -1,7 +1,7 @@
 -- Document 01, 'Rules': the twelve families over what a full test reads. What each says, in plain quantifiers, is proved in
 -- proofs/Meaning.antt.
 -- Assumes nothing.
-use Rattle.std.specs.Prelude.{Bool, false, not, cond, ◌&&◌, ◌||◌, List, ℕ, ◌+◌, ◌*◌, get_or, eqb, leb, ltb}
+use Rattle.std.specs.Prelude.{Bool, false, not, cond, ◌&&◌, ◌||◌, List, ℕ, ◌+◌, ◌*◌, get_or, eqb, leb, ltb, Option}
 use Rattle.sets.specs.Sets.{member, all, any, count}
 use Rattle.calendar.specs.Terms.{term_holds}
 use Rattle.calendar.specs.declared.terms.Term.{Term}
@@ -10,7 +10,6 @@ use Rattle.places.specs.declared.Position.{Position}
 use Rattle.places.specs.declared.Position.TheVariants.{Unknown}
 use Rattle.places.specs.declared.Side.{Side}
 use Rattle.rules.specs.Breach.{first_broken, over_limit, is_kept}
-use Rattle.rules.specs.declared.tests.Tested.{Tested}
 use Rattle.rules.specs.declared.sessions.Session.{Session}
 use Rattle.rules.specs.declared.families.Rule.{Rule}
 use Rattle.rules.specs.declared.families.Rule.TheVariants.{Prerequisite, MaxUsers, MaxRoles, MaxPermissions, MaxActive, StaticSeparation, DynamicSeparation, Dependency, TimeContext, LocationContext, HistorySeparation, BindingOfDuty}
@@ -62,7 +61,7 @@ unfoldable pub prerequisite_at : List ℕ → ℕ → ℕ → ℕ → Bool
 prerequisite_at assigned r q u = not (has_role assigned u r && not (has_role assigned u q))
 
 -- "`max-users r n`"
-unfoldable pub max_users : List ℕ → ℕ → ℕ → Tested
+unfoldable pub max_users : List ℕ → ℕ → ℕ → Option ℕ
 max_users held r n = over_limit (count 64 (λ u. has_role held u r)) n
 
 -- "`max-roles n` (each user)"
@@ -70,7 +69,7 @@ unfoldable pub max_roles_at : List ℕ → ℕ → ℕ → Bool
 max_roles_at held n u = leb (count 32 (has_role held u)) n
 
 -- "`max-permissions r n`"
-unfoldable pub max_permissions : List ℕ → ℕ → ℕ → Tested
+unfoldable pub max_permissions : List ℕ → ℕ → ℕ → Option ℕ
 max_permissions granted r n = over_limit (count 32 (member (permissions_of granted r))) n
 
 -- "`max-active n` (each session)"
@@ -132,7 +131,7 @@ view assigned held granted sessions active history time =
       time = time;
     }
 
-unfoldable pub tested : Rule → View → Tested
+unfoldable pub tested : Rule → View → Option ℕ
 tested (Prerequisite r q) v = first_broken 64 (prerequisite_at v.assigned r q)
 tested (MaxUsers r n) v = max_users v.held r n
 tested (MaxRoles n) v = first_broken 64 (max_roles_at v.held n)

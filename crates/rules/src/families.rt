@@ -48,89 +48,65 @@ impl Rule {
     pub const MOST_PERMISSIONS: u32 = 32;
 
     // Each number of the rule is in its range (else 11).
+    #[tactic(auto, unfolding(crate::specs::Acceptance::rule_in_range))]
     pub fn in_range(self) -> bool
         ensures { result ≡ rule_in_range self }
     {
         match self {
-            Rule::Prerequisite { role, required } => {
-                (role < Rule::ROLES) & (required < Rule::ROLES)
+            Rule::Prerequisite {
+                role: first,
+                required: second,
             }
-            Rule::MaxUsers { role, limit } => (role < Rule::ROLES) & (limit <= Rule::MOST_USERS),
-            Rule::MaxRoles { limit } => limit <= Rule::MOST_ROLES,
+            | Rule::StaticSeparation { first, second }
+            | Rule::DynamicSeparation { first, second }
+            | Rule::Dependency {
+                role: first,
+                needed: second,
+            } => first < Rule::ROLES && second < Rule::ROLES,
+            Rule::MaxUsers { role, limit } => role < Rule::ROLES && limit <= Rule::MOST_USERS,
+            Rule::MaxRoles { limit } | Rule::MaxActive { limit } => limit <= Rule::MOST_ROLES,
             Rule::MaxPermissions { role, limit } => {
-                (role < Rule::ROLES) & (limit <= Rule::MOST_PERMISSIONS)
+                role < Rule::ROLES && limit <= Rule::MOST_PERMISSIONS
             }
-            Rule::MaxActive { limit } => limit <= Rule::MOST_ROLES,
-            Rule::StaticSeparation { first, second } => {
-                (first < Rule::ROLES) & (second < Rule::ROLES)
-            }
-            Rule::DynamicSeparation { first, second } => {
-                (first < Rule::ROLES) & (second < Rule::ROLES)
-            }
-            Rule::Dependency { role, needed } => (role < Rule::ROLES) & (needed < Rule::ROLES),
-            Rule::TimeContext { role, term } => (role < Rule::ROLES) & term.in_range(),
-            Rule::LocationContext { role, side } => (role < Rule::ROLES) & side.shape().in_range(),
-            Rule::HistorySeparation { first, second } => {
-                (first < Rule::PERMISSIONS) & (second < Rule::PERMISSIONS)
-            }
-            Rule::BindingOfDuty { first, second } => {
-                (first < Rule::PERMISSIONS) & (second < Rule::PERMISSIONS)
+            Rule::TimeContext { role, term } => role < Rule::ROLES && term.in_range(),
+            Rule::LocationContext { role, side } => role < Rule::ROLES && side.shape().in_range(),
+            Rule::HistorySeparation { first, second } | Rule::BindingOfDuty { first, second } => {
+                first < Rule::PERMISSIONS && second < Rule::PERMISSIONS
             }
         }
     }
 
     // It does not name the same role or permission twice (else 13).
+    #[tactic(auto, unfolding(crate::specs::Acceptance::rule_distinct))]
     pub fn is_distinct(self) -> bool
         ensures { result ≡ rule_distinct self }
     {
         match self {
-            Rule::Prerequisite { role, required } => role != required,
-            Rule::MaxUsers { role: _, limit: _ } => true,
-            Rule::MaxRoles { limit: _ } => true,
-            Rule::MaxPermissions { role: _, limit: _ } => true,
-            Rule::MaxActive { limit: _ } => true,
-            Rule::StaticSeparation { first, second } => first != second,
-            Rule::DynamicSeparation { first, second } => first != second,
-            Rule::Dependency { role, needed } => role != needed,
-            Rule::TimeContext { role: _, term: _ } => true,
-            Rule::LocationContext { role: _, side: _ } => true,
-            Rule::HistorySeparation { first, second } => first != second,
-            Rule::BindingOfDuty { first, second } => first != second,
+            Rule::Prerequisite {
+                role: first,
+                required: second,
+            }
+            | Rule::StaticSeparation { first, second }
+            | Rule::DynamicSeparation { first, second }
+            | Rule::Dependency {
+                role: first,
+                needed: second,
+            }
+            | Rule::HistorySeparation { first, second }
+            | Rule::BindingOfDuty { first, second } => first != second,
+            _ => true,
         }
     }
 
     // Its term or shape is sound (else 14).
+    #[tactic(auto, unfolding(crate::specs::Acceptance::rule_sound))]
     pub fn is_sound(self) -> bool
         ensures { result ≡ rule_sound self }
     {
         match self {
-            Rule::Prerequisite {
-                role: _,
-                required: _,
-            } => true,
-            Rule::MaxUsers { role: _, limit: _ } => true,
-            Rule::MaxRoles { limit: _ } => true,
-            Rule::MaxPermissions { role: _, limit: _ } => true,
-            Rule::MaxActive { limit: _ } => true,
-            Rule::StaticSeparation {
-                first: _,
-                second: _,
-            } => true,
-            Rule::DynamicSeparation {
-                first: _,
-                second: _,
-            } => true,
-            Rule::Dependency { role: _, needed: _ } => true,
-            Rule::TimeContext { role: _, term } => term.is_sound(),
-            Rule::LocationContext { role: _, side } => side.shape().is_sound(),
-            Rule::HistorySeparation {
-                first: _,
-                second: _,
-            } => true,
-            Rule::BindingOfDuty {
-                first: _,
-                second: _,
-            } => true,
+            Rule::TimeContext { term, .. } => term.is_sound(),
+            Rule::LocationContext { side, .. } => side.shape().is_sound(),
+            _ => true,
         }
     }
 
@@ -138,6 +114,6 @@ impl Rule {
     pub fn is_accepted(self) -> bool
         ensures { result ≡ rule_accepted self }
     {
-        self.in_range() & (self.is_distinct() & self.is_sound())
+        self.in_range() && self.is_distinct() && self.is_sound()
     }
 }

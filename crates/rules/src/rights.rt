@@ -5,6 +5,7 @@ ghost use Rattle.rules.specs.Acceptance.{right_at, right_accepted};
 
 use crate::families::Rule;
 
+// A word of the subject, so no `Option`.
 #[derive(Clone, Copy)]
 pub enum Right {
     // There is no line of the kind: anyone may, whether a session acts or none.
@@ -30,19 +31,14 @@ pub struct RightSlot {
     pub right: Right,
 }
 
-pub(crate) fn rights_accepted(rights: [RightSlot; 6]) -> bool
-    ensures { result ≡ all 6 (λ kind. right_accepted (right_at rights kind)) }
+#[tactic(auto, using(crate::proofs::Every::all_turns))]
+pub(crate) fn rights_accepted(rights: &[RightSlot; 6]) -> bool
+    ensures { result ≡ all 6 (λ kind. right_accepted (right_at rights.now kind)) }
 {
-    let mut kind: usize = 0;
-    'kinds: loop {
-        if kind == 6 {
-            break 'kinds true;
+    for slot in rights {
+        if !slot.right.is_accepted() {
+            return false;
         }
-        let slot = rights[kind];
-        let right = slot.right;
-        if !right.is_accepted() {
-            break 'kinds false;
-        }
-        kind += 1;
     }
+    true
 }

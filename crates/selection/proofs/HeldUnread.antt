@@ -10,7 +10,7 @@ use Rattle.rules.specs.declared.families.Rule.TheVariants.{Prerequisite, MaxUser
 use Rattle.rules.specs.declared.sessions.Session.{Session}
 use Rattle.steps.specs.declared.actions.Action.{Action}
 use Rattle.steps.specs.declared.actions.Action.TheVariants.{Malformed, Assign, Withdraw, Grant, Take, Open, Activate, Deactivate, Access, Finish, Close, Move, Lost, Clock, Lend, Recall}
-use Rattle.steps.specs.Lowest.{lowest}
+use Rattle.rules.specs.Lowest.{lowest}
 use Rattle.selection.specs.Selection.{selects, selected_number}
 use Rattle.selection.specs.Judging.{judged_of, reads_held}
 

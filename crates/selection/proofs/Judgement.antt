@@ -3,21 +3,18 @@
 use mathlib.Core.Path.{◌≡◌, refl, sym, ap, ap₂, ◌∙◌, fun_ext}
 use mathlib.Core.Bool.{Bool, true, false, not, cond, ◌||◌}
 use mathlib.Core.List.{List, [], ◌∷◌, map}
-use mathlib.Core.Logic.{◌⊎◌, inl, inr}
 use Prim.Native.Nat.{ℕ, zero, suc, ◌+◌, ◌≤◌, ◌<◌}
 use native.Mathlib.Nat.{add-suc, suc-add, add-zero, add_comm}
 use native.Mathlib.Numerals.{add-one}
 use native.Mathlib.Omega.{arith}
 use lib.ListN.{length, take, get_or}
-use lib.Seq.{take_all}
 use Rattle.sets.specs.Sets.{one_if}
 use Rattle.rules.specs.Acceptance.{rule_of}
 use Rattle.rules.specs.Families.{View, holds}
 use Rattle.rules.specs.declared.families.Rule.{Rule}
 use Rattle.rules.specs.declared.lists.Slot.{Slot}
-use Rattle.steps.specs.declared.lowest.Lowest.{Lowest}
-use Rattle.steps.specs.declared.lowest.Lowest.TheVariants.{Unbroken, BrokenAt}
-use Rattle.steps.specs.Lowest.{lowest}
+use Rattle.std.specs.Prelude.{Option, Some, None}
+use Rattle.rules.specs.Lowest.{lowest}
 use Rattle.selection.specs.Selection.{selects, selected_number}
 use Rattle.selection.specs.Choices.{chosen}
 use Rattle.steps.specs.declared.actions.Action.{Action}
@@ -29,11 +26,6 @@ use Rattle.selection.specs.declared.judging.Judged.{Judged}
 abbrev pub first_rules : ℕ → List Slot → List Rule
 first_rules n slots = map rule_of (take n slots)
 
--- a length past the last slot takes no more rules than there are slots
-pub rules-bounded : (slots : List Slot) (n m : ℕ) → length slots ≡ 128 → (n ≡ m) ⊎ ((n ≡ 128) × (128 < m)) → first_rules n slots ≡ first_rules m slots
-rules-bounded slots n m long (inl e) = rw e
-rules-bounded slots n m long (inr past) = ap (map rule_of) (take_all n slots (omega (arith, past.0)) ∙ sym (take_all m slots (omega (arith, past.1))))
-
 -- ---- one slot more
 
 module _ (test : Rule → Bool) where
@@ -44,7 +36,7 @@ module _ (test : Rule → Bool) where
   lowest-more (slot ∷ slots) k (suc n) filler l = go (test slot.rule) (lowest-more slots (suc k) n filler (omega arith))
     where
       go : (b : Bool) → lowest test (suc k) (first_rules (suc n) slots) ≡ or_next (lowest test (suc k) (first_rules n slots)) (test (rule_of (get_or slots n filler))) (suc k + n) →
-          cond b (lowest test (suc k) (first_rules (suc n) slots)) (BrokenAt k) ≡ or_next (cond b (lowest test (suc k) (first_rules n slots)) (BrokenAt k)) (test (rule_of (get_or slots n filler))) (k + suc n)
+          cond b (lowest test (suc k) (first_rules (suc n) slots)) (Some k) ≡ or_next (cond b (lowest test (suc k) (first_rules n slots)) (Some k)) (test (rule_of (get_or slots n filler))) (k + suc n)
       go true h = h ∙ ap (or_next (lowest test (suc k) (first_rules n slots)) (test (rule_of (get_or slots n filler)))) (suc-add k n ∙ sym (add-suc k n))
       go false h = refl
 
@@ -67,16 +59,16 @@ number-le test (slot ∷ slots) (suc n) l = at_most (test slot.rule) (number-le 
 
 -- ---- the loop's turns
 
-abbrev judgement : Lowest → ℕ → Judged
+abbrev judgement : Option ℕ → ℕ → Judged
 judgement low number = record { broken = low; selected = number }
 
 -- a rule that is not selected changes nothing
-unless : (low : Lowest) (n : ℕ) → or_next low true n ≡ low
-unless Unbroken n = refl
-unless (BrokenAt m) n = refl
+unless : (low : Option ℕ) (n : ℕ) → or_next low true n ≡ low
+unless None n = refl
+unless (Some m) n = refl
 
 module _ (selected : Rule → Bool) (v : View) (slots : List Slot) where
-  pub judged-none : record { broken = Unbroken; selected = 0 } ≡ judged_of selected v (first_rules 0 slots)
+  pub judged-none : record { broken = None; selected = 0 } ≡ judged_of selected v []
   unfolding judged_of lowest selected_number
   judged-none = refl
 
@@ -108,20 +100,7 @@ module _ (selected : Rule → Bool) (v : View) (slots : List Slot) where
   unfolding judged_of
   judged-small judged n l e = rw e (number-le selected slots n l)
 
--- ---- one selected rule
-
-module _ (holds : Bool) (judged : Judged) (number : ℕ) where
-  pub visited-after : (n : ℕ) → judged.broken ≡ BrokenAt n → record { broken = judged.broken; selected = judged.selected + 1 } ≡ visited holds judged number
-  unfolding visited
-  visited-after n f = rw f
-
-  pub visited-kept : judged.broken ≡ Unbroken → holds ≡ true → record { broken = Unbroken; selected = judged.selected + 1 } ≡ visited holds judged number
-  unfolding visited
-  visited-kept f h = rw (f, h)
-
-  pub visited-broken : judged.broken ≡ Unbroken → holds ≡ false → record { broken = BrokenAt number; selected = judged.selected + 1 } ≡ visited holds judged number
-  unfolding visited
-  visited-broken f h = rw (f, h)
+pub ruleset judged_turns = (judged-none, judged-selected, judged-unselected, judged-small)
 
 -- ---- what is judged by a choice is so by the table
 

@@ -2,15 +2,16 @@
 -- Assumes nothing.
 use mathlib.Core.Path.{◌≡◌, refl, sym, ap, ◌∙◌}
 use mathlib.Core.Bool.{Bool, true, false, not, cond, ◌&&◌, and-false}
-use mathlib.Core.List.{List, []}
+use mathlib.Core.List.{List, [], ◌∷◌}
 use Prim.Native.Nat.{ℕ, zero, suc, ◌+◌, ◌^◌, ◌<◌}
 use native.Mathlib.Nat.{zero-add}
 use native.Mathlib.Omega.{arith}
 use native.Mathlib.Numerals.{add-one}
 use lib.Dec.{eqb, ltb}
-use lib.ListN.{length, take, drop, set}
-use lib.Seq.{take_all, take-suc, take-suc-set, drop-length, drop-cons, ext_get_or}
-use borrow.Author.Tests.{eq-eqb, ne_eqb, ltb-true, lt-ltb}
+use lib.Pointwise.{pointwise}
+use lib.ListN.{length, take, set}
+use lib.Seq.{take_all, take-suc, take-suc-set, ext_get_or}
+use borrow.Author.Tests.{ltb-true, lt-ltb}
 use Rattle.sets.specs.Sets.{member, intersection, difference, subset, union_of}
 use Rattle.sets.proofs.Booleans.{left-true, right-true}
 use Rattle.sets.proofs.Members.{member-intersection, member-difference}
@@ -31,24 +32,13 @@ filled_next l m i x within below filled e = rw (add-one i, take-suc-set l i x wi
 pub filled-all : (l m : List ℕ) (i : ℕ) → length l ≡ i → length m ≡ i → take i l ≡ take i m → l ≡ m
 filled-all l m i long wide filled = sym (take_all i l (omega arith)) ∙ filled ∙ take_all i m (omega arith)
 
--- two lists that are compared from their start on: one place more is the same, one is not, none is left
-module _ (l m : List ℕ) (i : ℕ) where
-  same-suc : i < length l → i < length m → same_lists (drop i l) (drop i m) ≡ (eqb (word_at l i) (word_at m i) && same_lists (drop (suc i) l) (drop (suc i) m))
-  unfolding same_lists
-  same-suc within below = rw (drop-cons l i 0 within, drop-cons m i 0 below)
-
-  pub same_next : i < length l → i < length m → word_at l i ≡ word_at m i → same_lists (drop i l) (drop i m) ≡ same_lists (drop (i + 1) l) (drop (i + 1) m)
-  same_next within below e = rw (add-one i, same-suc within below, eq-eqb (word_at l i) (word_at m i) e)
-
-  pub same_stop : i < length l → i < length m → (word_at l i ≡ word_at m i → ⊥) → same_lists (drop i l) (drop i m) ≡ false
-  same_stop within below n = rw (same-suc within below, ne_eqb (word_at l i) (word_at m i) n)
-
-  pub same_end : length l ≡ i → length m ≡ i → same_lists (drop i l) (drop i m) ≡ true
-  unfolding same_lists
-  same_end long wide = rw (drop_all l long, drop_all m wide)
-    where
-      drop_all : (k : List ℕ) → length k ≡ i → drop i k ≡ []
-      drop_all k e = rw (← e) (drop-length k)
+-- two lists of words are equal as the code compares them where they are the same
+pub pointwise-same : (l m : List ℕ) → pointwise eqb l m ≡ same_lists l m
+unfolding same_lists
+pointwise-same [] [] = refl
+pointwise-same [] (b ∷ m) = refl
+pointwise-same (a ∷ l) [] = refl
+pointwise-same (a ∷ l) (b ∷ m) = ap (λ (same : Bool). eqb a b && same) (pointwise-same l m)
 
 -- ---- held roles
 

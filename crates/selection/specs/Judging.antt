@@ -1,13 +1,11 @@
 -- The judgement of a request by the rules that it selects.
 -- Assumes nothing.
-use Rattle.std.specs.Prelude.{ℕ, ◌+◌, Bool, true, false, not, cond, ◌||◌, List}
+use Rattle.std.specs.Prelude.{ℕ, ◌+◌, Bool, true, false, not, cond, ◌||◌, List, Option, Some, None}
 use Rattle.rules.specs.Families.{View, holds}
 use Rattle.rules.specs.declared.families.Rule.{Rule}
 use Rattle.steps.specs.declared.actions.Action.{Action}
 use Rattle.steps.specs.declared.actions.Action.TheVariants.{Malformed, Assign, Withdraw, Grant, Take, Open, Activate, Deactivate, Access, Finish, Close, Move, Lost, Clock, Lend, Recall}
-use Rattle.steps.specs.declared.lowest.Lowest.{Lowest}
-use Rattle.steps.specs.declared.lowest.Lowest.TheVariants.{Unbroken, BrokenAt}
-use Rattle.steps.specs.Lowest.{lowest}
+use Rattle.rules.specs.Lowest.{lowest}
 use Rattle.selection.specs.Selection.{selected_number}
 use Rattle.selection.specs.declared.judging.Judged.{Judged}
 
@@ -20,9 +18,9 @@ judged_of selected v rules =
     }
 
 -- the lowest broken rule found so far, or the next one where it is broken
-abbrev pub or_next : Lowest → Bool → ℕ → Lowest
-or_next Unbroken holds number = cond holds Unbroken (BrokenAt number)
-or_next (BrokenAt n) holds number = BrokenAt n
+abbrev pub or_next : Option ℕ → Bool → ℕ → Option ℕ
+or_next None holds number = cond holds None (Some number)
+or_next (Some n) holds number = Some n
 
 -- one selected rule more
 unfoldable pub visited : Bool → Judged → ℕ → Judged

@@ -5,33 +5,33 @@ ghost use Rattle.selection.specs.Selection.{family, first, second, selects};
 ghost use Rattle.selection.specs.Choices.{chosen, choice_of};
 
 use rules::Rule;
-use sets::word32;
+use sets::Set;
 use steps::Action;
 
-// Sets of one family each.
-const PREREQUISITE: u32 = 2;
+// Sets of one family each. A family is a number, not an enum, since it is a member of such sets.
+const PREREQUISITE: u32 = 1 << 1;
 
-const MAX_USERS: u32 = 4;
+const MAX_USERS: u32 = 1 << 2;
 
-const MAX_ROLES: u32 = 8;
+const MAX_ROLES: u32 = 1 << 3;
 
-const MAX_PERMISSIONS: u32 = 16;
+const MAX_PERMISSIONS: u32 = 1 << 4;
 
-const MAX_ACTIVE: u32 = 32;
+const MAX_ACTIVE: u32 = 1 << 5;
 
-const STATIC_SEPARATION: u32 = 64;
+const STATIC_SEPARATION: u32 = 1 << 6;
 
-const DYNAMIC_SEPARATION: u32 = 128;
+const DYNAMIC_SEPARATION: u32 = 1 << 7;
 
-const DEPENDENCY: u32 = 256;
+const DEPENDENCY: u32 = 1 << 8;
 
-const TIME_CONTEXT: u32 = 512;
+const TIME_CONTEXT: u32 = 1 << 9;
 
-const LOCATION_CONTEXT: u32 = 1024;
+const LOCATION_CONTEXT: u32 = 1 << 10;
 
-const HISTORY_SEPARATION: u32 = 2048;
+const HISTORY_SEPARATION: u32 = 1 << 11;
 
-const BINDING_OF_DUTY: u32 = 4096;
+const BINDING_OF_DUTY: u32 = 1 << 12;
 
 // The rules that a step selects, by sets of families. It is made once a step, so that a rule of another family costs one test.
 #[derive(Clone, Copy)]
@@ -57,67 +57,40 @@ pub fn choice_of(action: Action) -> Choice
     ensures { (rule : Rule) → chosen result rule ≡ selects action rule }
 {
     match action {
-        Action::Malformed => by_families(0, 0, 0, 0),
-        Action::Assign { user: _, role } => by_families(
+        Action::Malformed | Action::Take { .. } | Action::Open { .. } | Action::Finish { .. } =>
+            by_families(0, 0, 0, 0),
+        Action::Assign { role, .. } => by_families(
             MAX_ROLES,
             PREREQUISITE | MAX_USERS | STATIC_SEPARATION,
             STATIC_SEPARATION,
             role,
         ),
-        Action::Withdraw { user: _, role } => by_families(0, 0, PREREQUISITE, role),
-        Action::Grant {
-            role,
-            permission: _,
-        } => by_families(0, MAX_PERMISSIONS, 0, role),
-        Action::Take {
-            role: _,
-            permission: _,
-        } => by_families(0, 0, 0, 0),
-        Action::Open {
-            session: _,
-            user: _,
-        } => by_families(0, 0, 0, 0),
-        Action::Activate { session: _, role } => by_families(
+        Action::Withdraw { role, .. } => by_families(0, 0, PREREQUISITE, role),
+        Action::Grant { role, .. } => by_families(0, MAX_PERMISSIONS, 0, role),
+        Action::Activate { role, .. } => by_families(
             MAX_ACTIVE,
             DYNAMIC_SEPARATION | DEPENDENCY | TIME_CONTEXT | LOCATION_CONTEXT,
             DYNAMIC_SEPARATION,
             role,
         ),
-        Action::Deactivate { session: _, role } => by_families(0, 0, DEPENDENCY, role),
-        Action::Access {
-            session: _,
-            permission,
-            object: _,
-        } => by_families(
+        Action::Deactivate { role, .. } => by_families(0, 0, DEPENDENCY, role),
+        Action::Access { permission, .. } => by_families(
             0,
             HISTORY_SEPARATION | BINDING_OF_DUTY,
             HISTORY_SEPARATION | BINDING_OF_DUTY,
             permission,
         ),
-        Action::Finish { object: _ } => by_families(0, 0, 0, 0),
-        Action::Close { session: _ } => by_families(DEPENDENCY, 0, 0, 0),
-        Action::Move {
-            session: _,
-            point: _,
-        } => by_families(LOCATION_CONTEXT | DEPENDENCY, 0, 0, 0),
-        Action::Lost { session: _ } => by_families(LOCATION_CONTEXT | DEPENDENCY, 0, 0, 0),
-        Action::Clock { time: _ } => by_families(TIME_CONTEXT | DEPENDENCY, 0, 0, 0),
-        Action::Lend {
-            lender: _,
-            borrower: _,
-            role,
-            until: _,
-        } => by_families(
+        Action::Close { .. } | Action::Recall { .. } => by_families(DEPENDENCY, 0, 0, 0),
+        Action::Move { .. } | Action::Lost { .. } => {
+            by_families(LOCATION_CONTEXT | DEPENDENCY, 0, 0, 0)
+        }
+        Action::Clock { .. } => by_families(TIME_CONTEXT | DEPENDENCY, 0, 0, 0),
+        Action::Lend { role, .. } => by_families(
             MAX_ROLES,
             MAX_USERS | STATIC_SEPARATION,
             STATIC_SEPARATION,
             role,
         ),
-        Action::Recall {
-            lender: _,
-            borrower: _,
-            role: _,
-        } => by_families(DEPENDENCY, 0, 0, 0),
     }
 }
 
@@ -125,7 +98,7 @@ fn by_families(whole: u32, by_first: u32, by_second: u32, named: usize) -> Choic
     ensures { result ≡ choice_of whole by_first by_second named }
 {
     Choice {
-        families: word32::union(word32::union(whole, by_first), by_second),
+        families: whole.union(by_first).union(by_second),
         whole,
         by_first,
         by_second,
@@ -133,19 +106,17 @@ fn by_families(whole: u32, by_first: u32, by_second: u32, named: usize) -> Choic
     }
 }
 
+#[tactic(auto, unfolding(crate::specs::Choices::chosen))]
 pub fn is_chosen(choice: Choice, rule: Rule) -> bool
     ensures { result ≡ chosen choice rule }
 {
     let family = family_of(rule);
-    if !word32::member(choice.families, family) {
+    if !choice.families.contains(family) {
         return false;
     }
-    if word32::member(choice.whole, family) {
-        return true;
-    }
-    let named = choice.named;
-    (word32::member(choice.by_first, family) & (first_of(rule) == named))
-        | (word32::member(choice.by_second, family) & (second_of(rule) == named))
+    choice.whole.contains(family)
+        || choice.by_first.contains(family) && first_of(rule) == choice.named
+        || choice.by_second.contains(family) && second_of(rule) == choice.named
 }
 
 // A rule's family, 1 to 12.
@@ -153,33 +124,18 @@ fn family_of(rule: Rule) -> usize
     ensures { result ≡ family rule }
 {
     match rule {
-        Rule::Prerequisite {
-            role: _,
-            required: _,
-        } => 1,
-        Rule::MaxUsers { role: _, limit: _ } => 2,
-        Rule::MaxRoles { limit: _ } => 3,
-        Rule::MaxPermissions { role: _, limit: _ } => 4,
-        Rule::MaxActive { limit: _ } => 5,
-        Rule::StaticSeparation {
-            first: _,
-            second: _,
-        } => 6,
-        Rule::DynamicSeparation {
-            first: _,
-            second: _,
-        } => 7,
-        Rule::Dependency { role: _, needed: _ } => 8,
-        Rule::TimeContext { role: _, term: _ } => 9,
-        Rule::LocationContext { role: _, side: _ } => 10,
-        Rule::HistorySeparation {
-            first: _,
-            second: _,
-        } => 11,
-        Rule::BindingOfDuty {
-            first: _,
-            second: _,
-        } => 12,
+        Rule::Prerequisite { .. } => 1,
+        Rule::MaxUsers { .. } => 2,
+        Rule::MaxRoles { .. } => 3,
+        Rule::MaxPermissions { .. } => 4,
+        Rule::MaxActive { .. } => 5,
+        Rule::StaticSeparation { .. } => 6,
+        Rule::DynamicSeparation { .. } => 7,
+        Rule::Dependency { .. } => 8,
+        Rule::TimeContext { .. } => 9,
+        Rule::LocationContext { .. } => 10,
+        Rule::HistorySeparation { .. } => 11,
+        Rule::BindingOfDuty { .. } => 12,
     }
 }
 
@@ -187,38 +143,34 @@ fn family_of(rule: Rule) -> usize
 pub fn first_of(rule: Rule) -> usize
     ensures { result ≡ first rule }
 {
-    match rule {
-        Rule::Prerequisite { role, required: _ } => role as usize,
-        Rule::MaxUsers { role, limit: _ } => role as usize,
-        Rule::MaxRoles { limit: _ } => 0,
-        Rule::MaxPermissions { role, limit: _ } => role as usize,
-        Rule::MaxActive { limit: _ } => 0,
-        Rule::StaticSeparation { first, second: _ } => first as usize,
-        Rule::DynamicSeparation { first, second: _ } => first as usize,
-        Rule::Dependency { role, needed: _ } => role as usize,
-        Rule::TimeContext { role, term: _ } => role as usize,
-        Rule::LocationContext { role, side: _ } => role as usize,
-        Rule::HistorySeparation { first, second: _ } => first as usize,
-        Rule::BindingOfDuty { first, second: _ } => first as usize,
-    }
+    let first = match rule {
+        Rule::Prerequisite { role, .. }
+        | Rule::MaxUsers { role, .. }
+        | Rule::MaxPermissions { role, .. }
+        | Rule::Dependency { role, .. }
+        | Rule::TimeContext { role, .. }
+        | Rule::LocationContext { role, .. } => role,
+        Rule::StaticSeparation { first, .. }
+        | Rule::DynamicSeparation { first, .. }
+        | Rule::HistorySeparation { first, .. }
+        | Rule::BindingOfDuty { first, .. } => first,
+        Rule::MaxRoles { .. } | Rule::MaxActive { .. } => 0,
+    };
+    first as usize
 }
 
 // The second one; 0 where it names none.
 fn second_of(rule: Rule) -> usize
     ensures { result ≡ second rule }
 {
-    match rule {
-        Rule::Prerequisite { role: _, required } => required as usize,
-        Rule::MaxUsers { role: _, limit: _ } => 0,
-        Rule::MaxRoles { limit: _ } => 0,
-        Rule::MaxPermissions { role: _, limit: _ } => 0,
-        Rule::MaxActive { limit: _ } => 0,
-        Rule::StaticSeparation { first: _, second } => second as usize,
-        Rule::DynamicSeparation { first: _, second } => second as usize,
-        Rule::Dependency { role: _, needed } => needed as usize,
-        Rule::TimeContext { role: _, term: _ } => 0,
-        Rule::LocationContext { role: _, side: _ } => 0,
-        Rule::HistorySeparation { first: _, second } => second as usize,
-        Rule::BindingOfDuty { first: _, second } => second as usize,
-    }
+    let second = match rule {
+        Rule::Prerequisite { required, .. } => required,
+        Rule::Dependency { needed, .. } => needed,
+        Rule::StaticSeparation { second, .. }
+        | Rule::DynamicSeparation { second, .. }
+        | Rule::HistorySeparation { second, .. }
+        | Rule::BindingOfDuty { second, .. } => second,
+        _ => 0,
+    };
+    second as usize
 }

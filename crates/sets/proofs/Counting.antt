@@ -170,3 +170,5 @@ count-with k n i l e =
 -- the members of either of two sets
 pub count-union : (k a b : ℕ) → count k (member (union a b)) ≡ count k (λ i. member a i || member b i)
 count-union k a b = count_same k (member (union a b)) (λ i. member a i || member b i) (λ i l. member_union a b i)
+
+pub ruleset counted_digits = (ones-count)

@@ -4,18 +4,18 @@ use mathlib.Core.Path.{◌≡◌, refl, sym, ap, ap₂, ◌∙◌, subst}
 use mathlib.Core.Bool.{Bool, true, false, not, cond, ◌&&◌, true≢false, false≢true}
 use mathlib.Core.Logic.{◌↔◌}
 use Prim.Native.Nat.{ℕ, zero, suc, ◌+◌, ◌*◌, ◌/◌, ◌%◌, ◌^◌, ◌≤◌, ◌<◌, suc-le-suc}
-use native.Mathlib.Nat.{mod-lt, zero-lt-suc, div-add-mod', lt_of_lt_of_le, lt_of_le_of_lt, one-mul, mod-eq_of_lt, le_refl, le_trans, le-suc, lt_of_not-le, pow-suc}
+use native.Mathlib.Nat.{mod-lt, zero-lt-suc, div-add-mod', lt_of_lt_of_le, lt_of_le_of_lt, lt_of_not-le, pow-suc}
 use native.Mathlib.Omega.{arith}
 use native.Mathlib.Numerals.{add-one}
 use lib.Dec.{eqb, ltb}
-use lib.Bits.{bit_and, bit_or, bit_xor, or_lt, xor_lt, and_le_l, and_comm}
+use lib.Bits.{or_zero_r, bit_and, bit_or, or_lt, xor_lt, and_le_l, and_comm}
 use lib.Arith.{lt-one}
 use lib.Pow.{pow_pos, pow_mono, pow-lt, shr_lt}
 use borrow.Author.Tests.{eq-eqb, ne_eqb, le-ltb, eqb-true, ltb-true}
 use Rattle.sets.specs.Sets.{member, union, intersection, difference, single, insert, with, without, subset, is_empty, all, any}
 use Rattle.sets.proofs.Booleans.{clash, both_true, left-true, right-true, same_test, not-both, not_so}
 use Rattle.sets.proofs.Bounded.{all_of, of-all, any_of, of-any}
-use Rattle.sets.proofs.Members.{two-positive, member-low, member-high, member-empty, member-intersection, member-without, with-below}
+use Rattle.sets.proofs.Members.{two-positive, member-low, member-high, member-empty, member-intersection, member-without}
 
 pub half_lt : {n : ℕ} (k : ℕ) → n < 2 ^ suc k → n / 2 < 2 ^ k
 half_lt {n} k h = shr_lt k 1 (subst (λ (x : ℕ). n < 2 ^ x) (sym (add-one k)) h)
@@ -25,6 +25,10 @@ pub member-past : (k n i : ℕ) → n < 2 ^ k → k ≤ i → member n i ≡ fal
 member-past zero n i h l = ap (λ (x : ℕ). member x i) (lt-one h) ∙ member-empty i
 member-past (suc k) n zero h l = absurd (omega arith)
 member-past (suc k) n (suc i) h l = member-high n i ∙ member-past k (n / 2) i (half_lt k h) (omega arith)
+
+-- the test of the width and the test of the digit are one where the number is past the width
+pub past_width : (k n i : ℕ) → n < 2 ^ k → k ≤ i → ltb i k ≡ member n i
+past_width k n i h l = le-ltb i k l ∙ sym (member-past k n i h l)
 
 pub member_below : (k n i : ℕ) → n < 2 ^ k → member n i ≡ true → i < k
 member_below k n i h e = lt_of_not-le (λ (l : k ≤ i). true≢false (sym e ∙ member-past k n i h l))
@@ -93,35 +97,29 @@ with-lt k n i h = go (ltb i k) refl
 
 -- ---- the words' operations
 
--- `1 << i` at the width k
-shifted : (k i : ℕ) → i < k → (1 * 2 ^ i) % 2 ^ k ≡ single i
-shifted k i l = ap (λ (x : ℕ). x % 2 ^ k) (one-mul (2 ^ i)) ∙ mod-eq_of_lt (pow-lt l)
-
-pub with-word : (k n i : ℕ) → i < k → bit_or n ((1 * 2 ^ i) % 2 ^ k) ≡ with k n i
-with-word k n i l = ap (bit_or n) (shifted k i l) ∙ sym (with-below k n i l)
-
 pub with-past : (k n i : ℕ) → k ≤ i → n ≡ with k n i
 unfolding with
 with-past k n i l = sym (ap (λ (b : Bool). cond b (insert n i) n) (le-ltb i k l))
 
-pub without-word : (k n i : ℕ) → i < k → bit_xor (bit_or n ((1 * 2 ^ i) % 2 ^ k)) ((1 * 2 ^ i) % 2 ^ k) ≡ without n i
-unfolding without
-without-word k n i l = ap (difference n) (shifted k i l)
+-- the set of one number joined to a set: past the width it is empty, and nothing is joined
+pub with_single : (k n i : ℕ) → union n (cond (ltb i k) (single i) 0) ≡ with k n i
+unfolding with
+with_single k n i = go (ltb i k)
+  where
+    go : (b : Bool) → union n (cond b (single i) 0) ≡ cond b (insert n i) n
+    go true = refl
+    go false = or_zero_r n
 
 pub without-lt : (k n i : ℕ) → n < 2 ^ k → i < k → without n i < 2 ^ k
 unfolding without
 without-lt k n i h l = difference-lt k n (single i) h (pow-lt l)
 
--- a number past the width is no member, so nothing is taken
-pub without-past : (k n i : ℕ) → n < 2 ^ k → k ≤ i → n ≡ without n i
-without-past k n i h l =
-    same-members (suc i) n (without n i) wide (without-lt (suc i) n i wide (le_refl (suc i))) (λ j m. sym (member-without n i j ∙ stays j))
+-- what is no member is not taken
+pub without_none : (n i : ℕ) → member n i ≡ false → n ≡ without n i
+without_none n i out = equal-sets n (without n i) (λ j. sym (member-without n i j ∙ stays j))
   where
-    wide : n < 2 ^ suc i
-    wide = lt_of_lt_of_le h (pow_mono (le_trans l (le-suc i)))
-
     other : (j : ℕ) → member n j ≡ true → i ≡ j → ⊥
-    other j e q = true≢false (sym e ∙ ap (member n) (sym q) ∙ member-past k n i h l)
+    other j e q = clash (ap (member n) q ∙ e) out
 
     stays : (j : ℕ) → (member n j && not (eqb i j)) ≡ member n j
     stays j =

@@ -2,147 +2,151 @@
 // A u32 holds numbers below 32 (roles, permissions, sessions), a u64 numbers below 64 (users).
 #![tactic(auto)]
 
-ghost use Rattle.std.specs.Prelude.{◌≡◌};
-ghost use Rattle.sets.specs.Sets.{member, with, without, union, intersection, difference, subset, is_empty, count};
+ghost use Rattle.std.specs.Prelude.{◌≡◌, true, ℕ, ◌<◌, cond, ltb};
+ghost use Rattle.sets.specs.Sets.{member, single, with, without, union, intersection, difference, subset, is_empty, count};
 
-pub mod word32 {
+// A word as a set of the numbers below its width.
+pub trait Set: Copy {
+    const WIDTH: usize;
+
+    ghost WIDTH: { ℕ };
+
+    // The number whose digits the members are.
+    ghost number: { Self → ℕ };
+
     // i is a member of the set. No number past the width is.
-    pub fn member(set: u32, i: usize) -> bool
-        ensures { result ≡ member set i }
-    {
-        if 32 <= i {
-            return false;
-        }
-        (set >> i) % 2 == 1
-    }
+    fn contains(self, i: usize) -> bool
+        ensures member { result ≡ member (number self) i }
+        ensures below { result ≡ true → i < WIDTH };
+
+    // The set of i alone; of a number past the width the empty set.
+    fn single(i: usize) -> Self
+        ensures { number result ≡ cond (ltb i WIDTH) (single i) 0 };
+
+    // The members of either set.
+    fn union(self, other: Self) -> Self
+        ensures { number result ≡ union (number self) (number other) };
+
+    // The members of both sets.
+    fn intersection(self, other: Self) -> Self
+        ensures { number result ≡ intersection (number self) (number other) };
+
+    // The members of this set that are not in the other.
+    fn difference(self, other: Self) -> Self
+        ensures { number result ≡ difference (number self) (number other) };
+
+    // Each member of this set is one of the other.
+    fn is_subset(self, other: Self) -> bool
+        ensures { result ≡ subset (number self) (number other) };
+
+    // The set has no member.
+    fn is_empty(self) -> bool
+        ensures { result ≡ is_empty (number self) };
+
+    // The number of members: the ones of the word.
+    fn count(self) -> u32
+        ensures { result ≡ count WIDTH (member (number self)) };
 
     // The set and i. A number past the width is not added.
-    pub fn with(set: u32, i: usize) -> u32
-        ensures { result ≡ with 32 set i }
+    #[tactic(auto, using(crate::proofs::Width::with_single))]
+    fn with(self, i: usize) -> Self
+        ensures { number result ≡ with WIDTH (number self) i }
     {
-        if 32 <= i {
-            return set;
-        }
-        set | (1u32 << i)
+        self.union(Self::single(i))
     }
 
     // The set but for i.
-    pub fn without(set: u32, i: usize) -> u32
-        ensures { result ≡ without set i }
+    #[tactic(auto, using(crate::proofs::Width::without_none), unfolding(crate::specs::Sets::without))]
+    fn without(self, i: usize) -> Self
+        ensures { number result ≡ without (number self) i }
     {
-        if 32 <= i {
-            return set;
+        if !self.contains(i) {
+            return self;
         }
-        let bit = 1u32 << i;
-        (set | bit) ^ bit
-    }
-
-    // The members of either set.
-    pub fn union(a: u32, b: u32) -> u32
-        ensures { result ≡ union a b }
-    {
-        a | b
-    }
-
-    // The members of both sets.
-    pub fn intersection(a: u32, b: u32) -> u32
-        ensures { result ≡ intersection a b }
-    {
-        a & b
-    }
-
-    // The members of a that are not in b.
-    pub fn difference(a: u32, b: u32) -> u32
-        ensures { result ≡ difference a b }
-    {
-        (a | b) ^ b
-    }
-
-    // Each member of a is one of b.
-    pub fn is_subset(a: u32, b: u32) -> bool
-        ensures { result ≡ subset a b }
-    {
-        a & b == a
-    }
-
-    // The set has no member.
-    pub fn is_empty(set: u32) -> bool
-        ensures { result ≡ is_empty set }
-    {
-        set == 0
-    }
-
-    // The number of members: the ones of the word.
-    pub fn count(set: u32) -> u32
-        ensures { result ≡ count 32 (member set) }
-    {
-        u32::count_ones(set)
+        self.difference(Self::single(i))
     }
 }
 
-// The same at the wider word.
-pub mod word64 {
-    pub fn member(set: u64, i: usize) -> bool
-        ensures { result ≡ member set i }
-    {
-        if 64 <= i {
-            return false;
-        }
-        (set >> i) % 2 == 1
+impl Set for u32 {
+    const WIDTH: usize = 32;
+
+    ghost WIDTH = { 32 };
+
+    ghost number = { λ n. n };
+
+    #[tactic(auto, using(crate::proofs::Width::past_width), unfolding(crate::specs::Sets::member))]
+    fn contains(self, i: usize) -> bool {
+        i < 32 && (self >> i) % 2 == 1
     }
 
-    pub fn with(set: u64, i: usize) -> u64
-        ensures { result ≡ with 64 set i }
-    {
-        if 64 <= i {
-            return set;
-        }
-        set | (1u64 << i)
+    fn single(i: usize) -> u32 {
+        if i < 32 { 1u32 << i } else { 0 }
     }
 
-    pub fn without(set: u64, i: usize) -> u64
-        ensures { result ≡ without set i }
-    {
-        if 64 <= i {
-            return set;
-        }
-        let bit = 1u64 << i;
-        (set | bit) ^ bit
+    fn union(self, other: u32) -> u32 {
+        self | other
     }
 
-    pub fn union(a: u64, b: u64) -> u64
-        ensures { result ≡ union a b }
-    {
-        a | b
+    fn intersection(self, other: u32) -> u32 {
+        self & other
     }
 
-    pub fn intersection(a: u64, b: u64) -> u64
-        ensures { result ≡ intersection a b }
-    {
-        a & b
+    fn difference(self, other: u32) -> u32 {
+        (self | other) ^ other
     }
 
-    pub fn difference(a: u64, b: u64) -> u64
-        ensures { result ≡ difference a b }
-    {
-        (a | b) ^ b
+    fn is_subset(self, other: u32) -> bool {
+        self & other == self
     }
 
-    pub fn is_subset(a: u64, b: u64) -> bool
-        ensures { result ≡ subset a b }
-    {
-        a & b == a
+    fn is_empty(self) -> bool {
+        self == 0
     }
 
-    pub fn is_empty(set: u64) -> bool
-        ensures { result ≡ is_empty set }
-    {
-        set == 0
+    #[tactic(auto, using(crate::proofs::Counting::counted_digits))]
+    fn count(self) -> u32 {
+        u32::count_ones(self)
+    }
+}
+
+impl Set for u64 {
+    const WIDTH: usize = 64;
+
+    ghost WIDTH = { 64 };
+
+    ghost number = { λ n. n };
+
+    #[tactic(auto, using(crate::proofs::Width::past_width), unfolding(crate::specs::Sets::member))]
+    fn contains(self, i: usize) -> bool {
+        i < 64 && (self >> i) % 2 == 1
     }
 
-    pub fn count(set: u64) -> u32
-        ensures { result ≡ count 64 (member set) }
-    {
-        u64::count_ones(set)
+    fn single(i: usize) -> u64 {
+        if i < 64 { 1u64 << i } else { 0 }
+    }
+
+    fn union(self, other: u64) -> u64 {
+        self | other
+    }
+
+    fn intersection(self, other: u64) -> u64 {
+        self & other
+    }
+
+    fn difference(self, other: u64) -> u64 {
+        (self | other) ^ other
+    }
+
+    fn is_subset(self, other: u64) -> bool {
+        self & other == self
+    }
+
+    fn is_empty(self) -> bool {
+        self == 0
+    }
+
+    #[tactic(auto, using(crate::proofs::Counting::counted_digits))]
+    fn count(self) -> u32 {
+        u64::count_ones(self)
     }
 }

@@ -1,6 +1,6 @@
 -- One line of a saved text, both ways: a line in range is read again whatever follows it, and what is read stands there.
 -- Assumes nothing.
-use mathlib.Core.Path.{◌≡◌, refl, sym, ap, ◌∙◌}
+use mathlib.Core.Path.{◌≡◌, refl, sym, ap, ◌∙◌, subst}
 use mathlib.Core.Bool.{Bool, true, false, cond}
 use mathlib.Core.Logic.{◌⊎◌, inl, inr}
 use mathlib.Core.List.{List, ◌++◌}
@@ -10,15 +10,17 @@ use lib.Dec.{ltb}
 use lib.ListN.{length, drop, replicate}
 use lib.Seq.{sets}
 use borrow.Author.Tests.{ltb-true, ltb-false, lt-ltb, le-ltb}
+use Rattle.std.specs.Prelude.{Result, Ok, Err}
 use Rattle.forms.specs.Forms.{fill, all_in_range, values_in, values_fit}
 use Rattle.forms.specs.Tables.{lines_in, form_at, found}
 use Rattle.forms.specs.declared.tables.Found.{Found}
 use Rattle.state_text.specs.Entries.{saved_forms, entry_of, form_of, values_of, line_text}
 use Rattle.state_text.specs.Reading.{line_after, read_line}
 use Rattle.state_text.specs.Causes.{Ranged, OutOfRange}
+use Rattle.forms.specs.Refusals.{numbered}
+use Rattle.state_text.specs.Refusals.{line_number}
+use Rattle.state_text.specs.declared.causes.LineRefusal.{LineRefusal}
 use Rattle.state_text.specs.declared.entries.Entry.{Entry}
-use Rattle.state_text.specs.declared.reading.LineRead.{LineRead}
-use Rattle.state_text.specs.declared.reading.LineRead.TheVariants.{Good, Bad}
 use Rattle.state_text.specs.declared.reading.Parsed.{Parsed}
 use Rattle.forms.proofs.Finding.{Hits, found-hits, found-written, found_none}
 use Rattle.forms.proofs.Marks.{range-fits}
@@ -39,7 +41,7 @@ module _ (k : ℕ) (v more : List ℕ) (l : k < 9) (fit : values_fit (form_at sa
 pub line-fits : (e : Entry) → Ranged e → values_fit (form_at saved_forms (form_of e)) (values_of e) ≡ true
 line-fits e h = range-fits (form_at saved_forms (form_of e)) (values_of e) (ranged-values e h)
 
-pub read-line : (e : Entry) (more : List ℕ) → Ranged e → read_line (line_text e ++ more) ≡ Good (record { entry = e; length = length (line_text e) })
+pub read-line : (e : Entry) (more : List ℕ) → Ranged e → read_line (line_text e ++ more) ≡ Ok (record { entry = e; length = length (line_text e) })
 unfolding line_text line_after
 read-line e more h =
     form-found (form_of e) (values_of e) more (form_small e) (line-fits e h)
@@ -48,15 +50,15 @@ read-line e more h =
 -- ---- as the code reads a line
 
 module _ (text : List ℕ) (f : Found) (e : f ≡ found saved_forms text) where
-  pub line-none : 9 ≤ f.form → Bad 10 ≡ read_line text
+  pub line-none : 9 ≤ f.form → Err 10 ≡ read_line text
   unfolding read_line line_after
   line-none h = rw (← e, le-ltb f.form 9 h)
 
-  pub line-outside : f.form < 9 → all_in_range (form_at saved_forms f.form) f.values ≡ false → Bad 11 ≡ read_line text
+  pub line-outside : f.form < 9 → all_in_range (form_at saved_forms f.form) f.values ≡ false → Err 11 ≡ read_line text
   unfolding read_line line_after
   line-outside h q = rw (← e, lt-ltb f.form 9 h, q)
 
-  pub line-good : f.form < 9 → all_in_range (form_at saved_forms f.form) f.values ≡ true → (x : Entry) → x ≡ entry_of f.form f.values → Good (record { entry = x; length = f.length }) ≡ read_line text
+  pub line-good : f.form < 9 → all_in_range (form_at saved_forms f.form) f.values ≡ true → (x : Entry) → x ≡ entry_of f.form f.values → Ok (record { entry = x; length = f.length }) ≡ read_line text
   unfolding read_line line_after
   line-good h q x g = rw (← e, lt-ltb f.form 9 h, q, g)
 
@@ -71,15 +73,15 @@ pub record GoodLine (text : List ℕ) (p : Parsed) : Type 0 where
   pub within : p.length ≤ length text
 
 -- what an answer says of the text
-abbrev pub Answers : List ℕ → LineRead → Type 0
-Answers text (Good p) = GoodLine text p
-Answers text (Bad number) = ((number ≡ 10) × NoFormAt text) ⊎ ((number ≡ 11) × OutOfRange text)
+abbrev pub Answers : List ℕ → Result Parsed ℕ → Type 0
+Answers text (Ok p) = GoodLine text p
+Answers text (Err number) = ((number ≡ 10) × NoFormAt text) ⊎ ((number ≡ 11) × OutOfRange text)
 
-good-or-bad : {number : ℕ} {p : Parsed} → Bad number ≡ Good p → ⊥
+good-or-bad : {number : ℕ} {p : Parsed} → Err number ≡ Ok p → ⊥
 good-or-bad h = unequal cc
 
 found-answers : (text : List ℕ) (f : Found) → f ≡ found saved_forms text → Hits saved_forms text f → (x : Bool) → ltb f.form 9 ≡ x → (y : Bool) → all_in_range (form_at saved_forms f.form) f.values ≡ y →
-    Answers text (cond x (cond y (Good (record { entry = entry_of f.form f.values; length = f.length })) (Bad 11)) (Bad 10))
+    Answers text (cond x (cond y (Ok (record { entry = entry_of f.form f.values; length = f.length })) (Err 11)) (Err 10))
 found-answers text f e hits false p y q =
     inl (
       refl,
@@ -111,21 +113,24 @@ read-answers text =
     let f = found saved_forms text in
     found-answers text f refl (found-hits saved_forms text forms-distinct) (ltb f.form 9) refl (all_in_range (form_at saved_forms f.form) f.values) refl
 
+pub line-ranged : (text : List ℕ) {a : Result Parsed LineRefusal} {p : Parsed} → numbered line_number a ≡ read_line text → a ≡ Ok p → Ranged p.entry
+line-ranged text {a} {p} e g = let good : GoodLine text p = subst (Answers text) (sym e ∙ ap (numbered line_number) g) (read-answers text) in good.ranged
+
 -- no form is 10
-pub read_none : (text : List ℕ) → NoFormAt text → read_line text ≡ Bad 10
+pub read_none : (text : List ℕ) → NoFormAt text → read_line text ≡ Err 10
 unfolding line_text
 read_none text none = go (read_line text) (read-answers text)
   where
-    go : (a : LineRead) → Answers text a → a ≡ Bad 10
-    go (Good p) good = absurd (none (form_of p.entry) (values_of p.entry) (drop p.length text) (form_small p.entry) (line-fits p.entry good.ranged) good.is_line)
-    go (Bad number) (inl h) = ap Bad h.0
-    go (Bad number) (inr h) = absurd (none h.1.form h.1.values h.1.more h.1.is_form h.1.can_stand h.1.is_line)
+    go : (a : Result Parsed ℕ) → Answers text a → a ≡ Err 10
+    go (Ok p) good = absurd (none (form_of p.entry) (values_of p.entry) (drop p.length text) (form_small p.entry) (line-fits p.entry good.ranged) good.is_line)
+    go (Err number) (inl h) = ap Err h.0
+    go (Err number) (inr h) = absurd (none h.1.form h.1.values h.1.more h.1.is_form h.1.can_stand h.1.is_line)
 
 -- with a number outside its range it is 11
-pub read-outside : (text : List ℕ) → OutOfRange text → read_line text ≡ Bad 11
+pub read-outside : (text : List ℕ) → OutOfRange text → read_line text ≡ Err 11
 read-outside text h = go (read_line text) (read-answers text)
   where
-    go : (a : LineRead) → Answers text a → a ≡ Bad 11
-    go (Good p) good = absurd (h.outside p.entry (drop p.length text) good.ranged good.is_line)
-    go (Bad number) (inl none) = absurd (none.1 h.form h.values h.more h.is_form h.can_stand h.is_line)
-    go (Bad number) (inr outside) = ap Bad outside.0
+    go : (a : Result Parsed ℕ) → Answers text a → a ≡ Err 11
+    go (Ok p) good = absurd (h.outside p.entry (drop p.length text) good.ranged good.is_line)
+    go (Err number) (inl none) = absurd (none.1 h.form h.values h.more h.is_form h.can_stand h.is_line)
+    go (Err number) (inr outside) = ap Err outside.0

@@ -2,12 +2,13 @@
 -- Assumes nothing.
 use mathlib.Core.Path.{◌≡◌, refl, sym, ap, ◌∙◌}
 use mathlib.Core.Bool.{Bool, true, false, cond, not, ◌&&◌}
-use mathlib.Core.List.{List, [], ◌∷◌, ◌++◌, map}
+use mathlib.Core.List.{List, [], ◌∷◌, ◌++◌, map, map-append}
 use Prim.Native.Nat.{ℕ, zero, suc, ◌+◌, ◌-◌, ◌*◌, ◌/◌, ◌%◌, ◌^◌, ◌≤◌, ◌<◌}
 use native.Mathlib.Nat.{add-mul, mul-le-mul, le_refl}
 use native.Mathlib.Numerals.{add-one}
 use native.Mathlib.Omega.{arith}
-use lib.ListN.{length, length-append}
+use lib.ListN.{length, get_or, take, length-append}
+use lib.Seq.{take-suc}
 use lib.Dec.{ltb, eqb}
 use lib.IntN.{ℤ, pos, negsuc}
 use mir.Syntax.{w32}
@@ -28,9 +29,9 @@ use Rattle.forms.specs.Writing.{last_place, capped}
 use Rattle.forms.proofs.Puts.{capped_small, digits-length}
 use Rattle.state_text.specs.Entries.{line_text}
 use Rattle.state_text.specs.Saving.{over, only, loan_line, place_line, place_lines, lines_text, saved_text}
-use Rattle.state_text.specs.Parts.{member_line, member_lines, set_lines, row_lines, history_lines, open_lines, session_parts, session_parts_at, width, Measured, SetMeasured, RowsMeasured}
+use Rattle.state_text.specs.Parts.{member_lines, set_lines, row_lines, history_lines, open_lines, session_parts, session_parts_at, width, Measured, SetMeasured, RowsMeasured}
 use Rattle.state_text.specs.declared.entries.Entry.{Entry}
-use Rattle.state_text.specs.declared.entries.Entry.TheVariants.{Now, Open, Place, Active, Did, PlaceWithError}
+use Rattle.state_text.specs.declared.entries.Entry.TheVariants.{Now, Assigned, Granted, Open, Place, Active, Did, PlaceWithError}
 use Rattle.state_text.proofs.Rows.{over_zero, over-suc}
 use Rattle.state_text.proofs.JoinedLines.{text-append, text-none, text-one}
 use Rattle.state_text.proofs.LineSizes.{now-bytes, loan-bytes, open-bytes, place-bytes, error-bytes, assigned-size, granted-size, active-size, did-size}
@@ -103,7 +104,7 @@ module _ (bytes set : ℕ) {members short : ℕ} (all-members : members ≡ coun
   set-measured h =
       let product : members * (bytes + 2) ≡ count 64 (member set) * (bytes + 2) = rw all-members in
       record {
-        lines = λ form first second each. omega (arith, members-bytes bytes (member set) (member_line form first second) 64 each, short-ones, short-members set);
+        lines = λ line each. omega (arith, members-bytes bytes (member set) line 64 each, short-ones, short-members set);
         bounded = omega (arith, product-most h);
       }
 
@@ -119,10 +120,8 @@ module _ (e : Entry) {r : ℕ} (h : r ≡ capped (length (line_text e))) where
 pub none-measured : (most : ℕ) → Measured [] most 0
 none-measured most = record { bytes = sym (ap length text-none); bounded = omega arith }
 
-pub now-measured : (t : ℕ) {r : ℕ} → t < 2 ^ 64 → r ≡ capped (length (line_text (Now t))) → (r ≡ length (line_text (Now t))) × (r ≤ 100)
-now-measured t k h =
-    let short : length (line_text (Now t)) ≤ 100 = omega (arith, now-bytes t, digits-length 19 t (omega arith)) in
-    (line-measured (Now t) h (omega arith), omega (arith, line-measured (Now t) h (omega arith)))
+pub now-measured : (t : ℕ) {r : ℕ} → t < 2 ^ 64 → r ≡ capped (length (line_text (Now t))) → Measured (Now t ∷ []) 100 r
+now-measured t k h = one-measured (Now t) h (omega (arith, now-bytes t, digits-length 19 t (omega arith))) (omega arith)
 
 pub open-measured : (i user : ℕ) {r : ℕ} → i < 2 ^ 64 → user < 2 ^ 64 → r ≡ capped (length (line_text (Open i user))) → Measured (Open i user ∷ []) 100 r
 open-measured i user k l h = one-measured (Open i user) h (omega (arith, open-bytes i user, digits-length 19 i (omega arith), digits-length 19 user (omega arith))) (omega arith)
@@ -176,56 +175,66 @@ sum-start f = sym (none-bytes f)
 pub sum-turn : (f : ℕ → List Entry) (i : ℕ) {total r : ℕ} → total ≡ length (lines_text (over i f)) → r ≡ length (lines_text (f i)) → total + r ≡ length (lines_text (over (i + 1) f))
 sum-turn f i h k = sym (rw (add-one i) (over-bytes i f ∙ rw (← h, ← k)))
 
+-- ---- the loans
+
+pub loans-start : 0 ≡ length (lines_text [])
+loans-start = sym (ap length text-none)
+
+pub loans-turn : (loans : List Loan) (i : ℕ) (filler : Loan) {total r : ℕ} → total ≡ length (lines_text (map loan_line (take i loans))) → i < length loans
+    → Measured (loan_line (get_or loans i filler) ∷ []) 100 r → total + r ≡ length (lines_text (map loan_line (take (i + 1) loans)))
+loans-turn loans i filler h l m =
+    sym (rw (add-one i, take-suc loans i filler l, map-append) (joined_bytes (map loan_line (take i loans)) (loan_line (get_or loans i filler) ∷ []) ∙ rw (← h, ← m.bytes)))
+
 -- ---- rows
 
 -- each line has so many bytes beside its two numbers' digits
-abbrev pub EachLine : ℕ → ℕ → Type 0
-EachLine form bytes = (i j : ℕ) → i < 64 → j < 64 → length (line_text (member_line form i 0 j)) ≡ bytes + (width i + width j)
+abbrev pub EachLine : (ℕ → ℕ → Entry) → ℕ → Type 0
+EachLine line bytes = (i j : ℕ) → i < 64 → j < 64 → length (line_text (line i j)) ≡ bytes + (width i + width j)
 
 abbrev pub RowsTill : ℕ → List ℕ → ℕ → ℕ → Type 0
-RowsTill bytes words total i = (form : ℕ) → EachLine form bytes → total ≡ length (lines_text (over i (row_lines form words)))
+RowsTill bytes words total i = (line : ℕ → ℕ → Entry) → EachLine line bytes → total ≡ length (lines_text (over i (row_lines line words)))
 
-pub rows-turn : (bytes : ℕ) (words : List ℕ) {total i word r : ℕ} → RowsTill bytes words total i → i < 64 → word ≡ word_at words i → word < 2 ^ 32
-    → SetMeasured (bytes + width i) word r → RowsTill bytes words (total + r) (i + 1)
+pub rows-turn : (bytes : ℕ) (words : List ℕ) {total i r : ℕ} → RowsTill bytes words total i → i < 64 → word_at words i < 2 ^ 32
+    → SetMeasured (bytes + width i) (word_at words i) r → RowsTill bytes words (total + r) (i + 1)
 unfolding row_lines
-rows-turn bytes words {i = i} {word} {r} before h e small set form each =
-    let here : (j : ℕ) → j < 64 → length (line_text (member_line form i 0 j)) ≡ bytes + width i + width j = λ j l. omega (arith, each i j h l) in
-    sum-turn (row_lines form words) i (before form each) (set.lines form i 0 here ∙ ap (λ (es : List Entry). length (lines_text es)) (low-set form i 0 word small ∙ rw e))
+rows-turn bytes words {i = i} before h small set line each =
+    let here : (j : ℕ) → j < 64 → length (line_text (line i j)) ≡ bytes + width i + width j = λ j l. omega (arith, each i j h l) in
+    sum-turn (row_lines line words) i (before line each) (set.lines (line i) here ∙ ap (λ (es : List Entry). length (lines_text es)) (low-set (line i) (word_at words i) small))
 
 -- ---- the history
 
 pub history-turn : (words : List ℕ) (i : ℕ) {total r : ℕ} → total ≡ length (lines_text (over i (history_lines words))) → i < 1024
     → SetMeasured (9 + width (i / 32) + width (i % 32)) (word_at words i) r → total + r ≡ length (lines_text (over (i + 1) (history_lines words)))
-unfolding history_lines member_line
+unfolding history_lines
 history-turn words i before h set =
     let line : (u : ℕ) → u < 64 → length (line_text (Did (i / 32) (i % 32) u)) ≡ 9 + width (i / 32) + width (i % 32) + width u =
     λ u l. omega (arith, did-size (i / 32) (i % 32) u (omega arith) (omega arith) (omega arith)) in
-    sum-turn (history_lines words) i before (set.lines 7 (i / 32) (i % 32) line)
+    sum-turn (history_lines words) i before (set.lines (Did (i / 32) (i % 32)) line)
 
 -- ---- a session
 
-pub session-measured : (i : ℕ) (session : Session) (roles : ℕ) (word : ℕ) → word ≡ roles → word < 2 ^ 32 → i < 32 → {opened placed active : ℕ}
-    → Measured (open_lines i session.is_open session.user) 100 opened → Measured (place_lines i session.position) 100 placed → SetMeasured (11 + width i) word active
+pub session-measured : (i : ℕ) (session : Session) (roles : ℕ) → roles < 2 ^ 32 → i < 32 → {opened placed active : ℕ}
+    → Measured (open_lines i session.is_open session.user) 100 opened → Measured (place_lines i session.position) 100 placed → SetMeasured (11 + width i) roles active
     → Measured (session_parts i session roles) 4096 (opened + placed + active)
-unfolding session_parts member_line
-session-measured i session roles word e small h {opened} {placed} {active} o p a =
+unfolding session_parts
+session-measured i session roles small h {opened} {placed} {active} o p a =
     let line : (j : ℕ) → j < 64 → length (line_text (Active i j)) ≡ 11 + width i + width j = λ j l. omega (arith, active-size i j (omega arith) (omega arith)) in
-    let last : active ≡ length (lines_text (over 32 (member_lines 6 i 0 roles))) = a.lines 6 i 0 line ∙ ap (λ (es : List Entry). length (lines_text es)) (low-set 6 i 0 word small ∙ rw e) in
+    let last : active ≡ length (lines_text (over 32 (member_lines (Active i) roles))) = a.lines (Active i) line ∙ ap (λ (es : List Entry). length (lines_text es)) (low-set (Active i) roles small) in
     record {
-      bytes = sym (joined_bytes (open_lines i session.is_open session.user) (place_lines i session.position ++ over 32 (member_lines 6 i 0 roles))
-          ∙ omega (arith, joined_bytes (place_lines i session.position) (over 32 (member_lines 6 i 0 roles)), o.bytes, p.bytes, last));
+      bytes = sym (joined_bytes (open_lines i session.is_open session.user) (place_lines i session.position ++ over 32 (member_lines (Active i) roles))
+          ∙ omega (arith, joined_bytes (place_lines i session.position) (over 32 (member_lines (Active i) roles)), o.bytes, p.bytes, last));
       bounded = omega (arith, o.bounded, p.bounded, a.bounded);
     }
 
 -- ---- the whole state
 
 pub saved-measured : (s : State) → length s.assigned ≡ 64 → length s.granted ≡ 32 → {time roles permissions lent sessions history a b c : ℕ}
-    → time ≡ length (line_text (Now s.time)) → RowsMeasured 13 s.assigned roles → RowsMeasured 12 s.granted permissions
+    → Measured (Now s.time ∷ []) 100 time → RowsMeasured 13 s.assigned roles → RowsMeasured 12 s.granted permissions
     → Measured (map loan_line (loans_of s)) c lent
     → Measured (over 32 (session_parts_at s.sessions s.active)) a sessions → Measured (over 1024 (history_lines s.history)) b history
     → time + roles + permissions + lent + sessions + history ≡ length (saved_text s)
-unfolding member_line
 saved-measured s ha hg {time} {roles} {permissions} {lent} {sessions} {history} t r p loans l h =
-    let one : roles ≡ length (lines_text (over (length s.assigned) (row_lines 1 s.assigned))) = r.lines 1 (λ u r hu hr. assigned-size u r (omega arith) (omega arith)) in
-    let two : permissions ≡ length (lines_text (over (length s.granted) (row_lines 2 s.granted))) = p.lines 2 (λ r p hr hp. granted-size r p (omega arith) (omega arith)) in
-    sym (ap length (saved-parts s ha hg) ∙ simp length-append (omega (arith, t, one, two, loans.bytes, l.bytes, h.bytes)))
+    let one : roles ≡ length (lines_text (over (length s.assigned) (row_lines Assigned s.assigned))) = r.lines Assigned (λ u r hu hr. assigned-size u r (omega arith) (omega arith)) in
+    let two : permissions ≡ length (lines_text (over (length s.granted) (row_lines Granted s.granted))) = p.lines Granted (λ r p hr hp. granted-size r p (omega arith) (omega arith)) in
+    let now : time ≡ length (line_text (Now s.time)) = t.bytes ∙ ap length (text-one (Now s.time)) in
+    sym (ap length (saved-parts s ha hg) ∙ simp length-append (omega (arith, now, one, two, loans.bytes, l.bytes, h.bytes)))

@@ -4,7 +4,6 @@
 use mathlib.Core.Path.{◌≡◌, refl, sym, ap, ◌∙◌, subst}
 use mathlib.Core.Bool.{Bool, true, false, cond}
 use mathlib.Core.Logic.{◌↔◌, ◌⊎◌, inl, inr, ⊎_elim}
-use mathlib.Core.List.Memᴰ
 use mathlib.Core.List.{List, [], ◌∷◌, ◌++◌, Memᴰ}
 use Prim.Native.Nat.{ℕ, suc, ◌≤◌, ◌<◌}
 use native.Mathlib.Omega.{arith}
@@ -13,9 +12,8 @@ use Rattle.sets.proofs.Booleans.{clash}
 use Rattle.rules.specs.Acceptance.{rules_of, list_accepted}
 use Rattle.rules.specs.declared.families.Rule.{Rule}
 use Rattle.rules.specs.declared.lists.RuleList.{RuleList}
-use Rattle.steps.specs.declared.lowest.Lowest.{Lowest}
-use Rattle.steps.specs.declared.lowest.Lowest.TheVariants.{Unbroken, BrokenAt}
-use Rattle.steps.specs.Lowest.{lowest}
+use Rattle.std.specs.Prelude.{Option, Some, None}
+use Rattle.rules.specs.Lowest.{lowest}
 use Rattle.enforcement.specs.States.{fresh, rule_holds}
 use Rattle.enforcement.specs.Plain.{obeys}
 use Rattle.enforcement.specs.declared.states.State.{State}
@@ -25,7 +23,7 @@ use Rattle.forms.specs.Forms.{fill}
 use Rattle.forms.specs.Tables.{form_at}
 use Rattle.state_text.specs.Entries.{saved_forms, line_text, in_order, rests}
 use Rattle.state_text.specs.Saving.{lines_text}
-use Rattle.state_text.specs.Reading.{Loading, loaded, refused, unless_broken, under_rules, read_lines, read_state, loaded_of}
+use Rattle.state_text.specs.Reading.{Loading, loaded, refused, unless_broken, under_rules, read_lines, read_state}
 use Rattle.state_text.specs.Causes.{state_after, NoForm, OutOfRange, OutOfOrder, Unrested, ThirtyThird, BadLine, GoodText}
 use Rattle.state_text.specs.declared.entries.Entry.{Entry}
 use Rattle.state_text.proofs.Values.{form-some, line-some}
@@ -290,9 +288,9 @@ module _ (list : RuleList) (text : List ℕ) where
   under-refused : (r : Loading) (number place : ℕ) → (number ≡ 17 → ⊥) → under_rules list r ≡ refused number place → r ≡ refused number place
   under-refused (loaded s) number place n h = absurd (go (lowest (λ rule. rule_holds rule s) 1 (rules_of list)) h)
     where
-      go : (low : Lowest) → unless_broken s low ≡ refused number place → ⊥
-      go Unbroken h = unequal cc
-      go (BrokenAt k) h = n (let e : 17 ≡ number = cc in sym e)
+      go : (low : Option ℕ) → unless_broken s low ≡ refused number place → ⊥
+      go None h = unequal cc
+      go (Some k) h = n (let e : 17 ≡ number = cc in sym e)
   under-refused (refused c p) number place n h = h
 
   module _ (listed : list_accepted list ≡ true) where
@@ -359,9 +357,9 @@ module _ (list : RuleList) (text : List ℕ) where
             let w = (lowest-means (λ rule. rule_holds rule s) (rules_of list) filler n).0 (low (lowest (λ rule. rule_holds rule s) 1 (rules_of list)) h) in
             (s, (good-text text s).0 e, w.0, w.1, w.2)
           where
-            low : (l : Lowest) → unless_broken s l ≡ refused 17 (suc n) → l ≡ BrokenAt (suc n)
-            low Unbroken h = unequal cc
-            low (BrokenAt k) h = cc
+            low : (l : Option ℕ) → unless_broken s l ≡ refused 17 (suc n) → l ≡ Some (suc n)
+            low None h = unequal cc
+            low (Some k) h = cc
 
     -- and never with another rule
     pub refused-17-rule : (place : ℕ) → read_state list text ≡ refused 17 place → 1 ≤ place
@@ -374,9 +372,9 @@ module _ (list : RuleList) (text : List ℕ) where
             absurd (not-17 _ _ _ b.bad.cause)
         by_lines (loaded s) e h = lowest-from (λ rule. rule_holds rule s) 1 (rules_of list) place (low (lowest (λ rule. rule_holds rule s) 1 (rules_of list)) h)
           where
-            low : (l : Lowest) → unless_broken s l ≡ refused 17 place → l ≡ BrokenAt place
-            low Unbroken h = unequal cc
-            low (BrokenAt k) h = cc
+            low : (l : Option ℕ) → unless_broken s l ≡ refused 17 place → l ≡ Some place
+            low None h = unequal cc
+            low (Some k) h = cc
 
     -- a text is read where every line is good and every rule holds
     pub read-good : (s : State) → (read_state list text ≡ loaded s) ↔ (GoodText text s × (obeys (rules_of list) s ≡ true))
@@ -391,9 +389,9 @@ module _ (list : RuleList) (text : List ℕ) where
             let w = low (lowest (λ rule. rule_holds rule t) 1 (rules_of list)) h in
             (subst (GoodText text) w.1 ((good-text text t).0 e), subst (λ (x : State). obeys (rules_of list) x ≡ true) w.1 (lowest-none (λ rule. rule_holds rule t) 1 (rules_of list) w.0))
           where
-            low : (l : Lowest) → unless_broken t l ≡ loaded s → (l ≡ Unbroken) × (t ≡ s)
-            low Unbroken h = (refl, cc)
-            low (BrokenAt k) h = unequal cc
+            low : (l : Option ℕ) → unless_broken t l ≡ loaded s → (l ≡ None) × (t ≡ s)
+            low None h = (refl, cc)
+            low (Some k) h = unequal cc
 
   -- 40: the rules are refused, whatever the text
   pub refused-40 : (place : ℕ) → (read_state list text ≡ refused 40 place) ↔ ((list_accepted list ≡ false) × (place ≡ 0))
@@ -418,9 +416,9 @@ module _ (list : RuleList) (text : List ℕ) where
       by-cause (unrested e h) = Memᴰ.tail (Memᴰ.tail (Memᴰ.tail (Memᴰ.head e)))
       by-cause (thirty_third e h) = Memᴰ.tail (Memᴰ.tail (Memᴰ.tail (Memᴰ.tail (Memᴰ.head e))))
 
-      by-lowest : (s : State) (low : Lowest) → unless_broken s low ≡ refused number place → number ≡ 17
-      by-lowest s Unbroken h = unequal cc
-      by-lowest s (BrokenAt k) h = cc
+      by-lowest : (s : State) (low : Option ℕ) → unless_broken s low ≡ refused number place → number ≡ 17
+      by-lowest s None h = unequal cc
+      by-lowest s (Some k) h = cc
 
       by_lines : (r : Loading) → read_lines text ≡ r → under_rules list r ≡ refused number place → Memᴰ number (10 ∷ 11 ∷ 15 ∷ 16 ∷ 51 ∷ 17 ∷ 40 ∷ [])
       by_lines (loaded s) e h =
@@ -430,29 +428,3 @@ module _ (list : RuleList) (text : List ℕ) where
       by-list : (listed : Bool) → cond listed (under_rules list (read_lines text)) (refused 40 0) ≡ refused number place → Memᴰ number (10 ∷ 11 ∷ 15 ∷ 16 ∷ 51 ∷ 17 ∷ 40 ∷ [])
       by-list true h = by_lines (read_lines text) refl h
       by-list false h = let e : number ≡ 40 = cc in Memᴰ.tail (Memᴰ.tail (Memᴰ.tail (Memᴰ.tail (Memᴰ.tail (Memᴰ.tail (Memᴰ.head e))))))
-
-  -- of what `read_state` returns: 0, or one of these
-  pub read_number : Memᴰ (loaded_of (read_state list text)).number (0 ∷ 10 ∷ 11 ∷ 15 ∷ 16 ∷ 51 ∷ 17 ∷ 40 ∷ [])
-  read_number = by_result (read_state list text) refl
-    where
-      by_result : (r : Loading) → read_state list text ≡ r → Memᴰ (loaded_of r).number (0 ∷ 10 ∷ 11 ∷ 15 ∷ 16 ∷ 51 ∷ 17 ∷ 40 ∷ [])
-      by_result (loaded s) e = Memᴰ.head refl
-      by_result (refused number place) e = Memᴰ.tail (refused-number number place e)
-
-  -- and 0 where the state was read
-  pub read-zero : (loaded_of (read_state list text)).number ≡ 0 → read_state list text ≡ loaded (loaded_of (read_state list text)).state
-  read-zero = by_result (read_state list text) refl
-    where
-      some : {number : ℕ} → Memᴰ number (10 ∷ 11 ∷ 15 ∷ 16 ∷ 51 ∷ 17 ∷ 40 ∷ []) → 0 < number
-      some (Memᴰ.head e) = omega arith
-      some (Memᴰ.tail (Memᴰ.head e)) = omega arith
-      some (Memᴰ.tail (Memᴰ.tail (Memᴰ.head e))) = omega arith
-      some (Memᴰ.tail (Memᴰ.tail (Memᴰ.tail (Memᴰ.head e)))) = omega arith
-      some (Memᴰ.tail (Memᴰ.tail (Memᴰ.tail (Memᴰ.tail (Memᴰ.head e))))) = omega arith
-      some (Memᴰ.tail (Memᴰ.tail (Memᴰ.tail (Memᴰ.tail (Memᴰ.tail (Memᴰ.head e)))))) = omega arith
-      some (Memᴰ.tail (Memᴰ.tail (Memᴰ.tail (Memᴰ.tail (Memᴰ.tail (Memᴰ.tail (Memᴰ.head e))))))) = omega arith
-      some (Memᴰ.tail (Memᴰ.tail (Memᴰ.tail (Memᴰ.tail (Memᴰ.tail (Memᴰ.tail (Memᴰ.tail m))))))) = absurd (Memᴰ.not-nil m)
-
-      by_result : (r : Loading) → read_state list text ≡ r → (loaded_of r).number ≡ 0 → r ≡ loaded (loaded_of r).state
-      by_result (loaded s) e none = refl
-      by_result (refused number place) e none = absurd (omega (arith, none, some (refused-number number place e)))

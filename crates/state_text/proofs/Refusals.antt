@@ -8,6 +8,7 @@ use Prim.Native.Nat.{ℕ, zero, suc, ◌+◌, ◌-◌, ◌≤◌, ◌<◌}
 use native.Mathlib.Omega.{arith}
 use lib.ListN.{length, drop, length-append}
 use lib.Seq.{drop-append_seam}
+use Rattle.std.specs.Prelude.{Result, Ok, Err}
 use Rattle.enforcement.specs.States.{fresh}
 use Rattle.enforcement.specs.declared.states.State.{State}
 use Rattle.state_text.specs.Entries.{line_text, rank, in_order, with_line, rests, has_room}
@@ -15,11 +16,10 @@ use Rattle.state_text.specs.Saving.{lines_text}
 use Rattle.state_text.specs.Reading.{read_line, entry_in, length_in, Loading, loaded, refused, line_verdict, read_from, read_lines}
 use Rattle.state_text.specs.Causes.{Ranged, state_after, OutOfRange}
 use Rattle.state_text.specs.declared.entries.Entry.{Entry}
-use Rattle.state_text.specs.declared.reading.LineRead.{LineRead}
-use Rattle.state_text.specs.declared.reading.LineRead.TheVariants.{Good, Bad}
 use Rattle.state_text.proofs.Values.{line-some}
 use Rattle.state_text.proofs.LineTexts.{read-outside, read-line, NoFormAt, GoodLine, Answers, read-answers, read_none}
 use Rattle.state_text.proofs.GoodLines.{next_rank, GoodLines}
+use Rattle.state_text.specs.declared.reading.Parsed.{Parsed}
 
 -- ---- one turn of the reader
 
@@ -122,13 +122,13 @@ unfolding lines_text
 bad-here n next s text number h c = record { earlier = []; rest = text; whole = refl; more = h; good = tt; here = omega arith; cause = c }
 
 -- the result at a line, by what is read of it and of the rest
-verdict-comes : (n next : ℕ) (s : State) (text : List ℕ) (a : LineRead) (r : Loading) → 0 < length text → Answers text a
+verdict-comes : (n next : ℕ) (s : State) (text : List ℕ) (a : Result Parsed ℕ) (r : Loading) → 0 < length text → Answers text a
     → (GoodLine text (record { entry = entry_in a; length = length_in a }) → Comes (suc n) (suc (rank (entry_in a))) (with_line s (entry_in a)) (drop (length_in a) text) r)
     → Comes n next s text (line_verdict n next s a r)
-verdict-comes n next s text (Bad number) r some (inl h) f =
+verdict-comes n next s text (Err number) r some (inl h) f =
     bad-here n next s text number some (no_form h.0 h.1)
-verdict-comes n next s text (Bad number) r some (inr h) f = bad-here n next s text number some (out_of_range h.0 h.1)
-verdict-comes n next s text (Good p) r some good f = go (in_order next p.entry) refl (rests s p.entry) refl (has_room s p.entry) refl
+verdict-comes n next s text (Err number) r some (inr h) f = bad-here n next s text number some (out_of_range h.0 h.1)
+verdict-comes n next s text (Ok p) r some good f = go (in_order next p.entry) refl (rests s p.entry) refl (has_room s p.entry) refl
   where
     go : (x : Bool) → in_order next p.entry ≡ x → (y : Bool) → rests s p.entry ≡ y → (z : Bool) → has_room s p.entry ≡ z
         → Comes n next s text (cond x (cond y (cond z r (refused 51 n)) (refused 16 n)) (refused 15 n))
@@ -143,7 +143,7 @@ verdict-comes n next s text (Good p) r some good f = go (in_order next p.entry) 
         bad-here n next s text 15 some
         (out_of_order refl (record { entry = p.entry; more = drop p.length text; is_line = good.is_line; ranged = good.ranged; disordered = o }))
 
-shorter : (text : List ℕ) (a : LineRead) → GoodLine text (record { entry = entry_in a; length = length_in a }) → length (drop (length_in a) text) < length text
+shorter : (text : List ℕ) (a : Result Parsed ℕ) → GoodLine text (record { entry = entry_in a; length = length_in a }) → length (drop (length_in a) text) < length text
 shorter text a good =
     omega (arith, ap length good.is_line, length-append (line_text (entry_in a)) (drop (length_in a) text), line-some (entry_in a))
 
@@ -196,16 +196,16 @@ module _ (f n next : ℕ) (s : State) where
       go : (number : ℕ) → LineCause next s text number → line_verdict n next s (read_line text) later ≡ refused number n
       go number (no_form e h) = rw (read_none text h, e)
       go number (out_of_range e h) =
-          ap (λ (a : LineRead). line_verdict n next s a later) (read-outside text h) ∙ rw e
+          ap (λ (a : Result Parsed ℕ). line_verdict n next s a later) (read-outside text h) ∙ rw e
       go number (out_of_order e h) =
           let q = ap read_line h.is_line ∙ read-line h.entry h.more h.ranged in
-          ap (λ (a : LineRead). line_verdict n next s a later) q ∙ rw (h.disordered, e)
+          ap (λ (a : Result Parsed ℕ). line_verdict n next s a later) q ∙ rw (h.disordered, e)
       go number (unrested e h) =
           let q = ap read_line h.is_line ∙ read-line h.entry h.more h.ranged in
-          ap (λ (a : LineRead). line_verdict n next s a later) q ∙ rw (h.ordered, h.lacking, e)
+          ap (λ (a : Result Parsed ℕ). line_verdict n next s a later) q ∙ rw (h.ordered, h.lacking, e)
       go number (thirty_third e h) =
           let q = ap read_line h.is_line ∙ read-line h.entry h.more h.ranged in
-          ap (λ (a : LineRead). line_verdict n next s a later) q ∙ rw (h.ordered, h.rested, h.no_room, e)
+          ap (λ (a : Result Parsed ℕ). line_verdict n next s a later) q ∙ rw (h.ordered, h.rested, h.no_room, e)
 
 pub comes-from : (r : Loading) (f n next : ℕ) (s : State) (text : List ℕ) → length text ≤ f → Comes n next s text r → read_from f n next s text ≡ r
 comes-from (loaded given) f n next s text l c =

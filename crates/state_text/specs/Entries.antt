@@ -6,6 +6,7 @@ use Rattle.forms.specs.Forms.{fill}
 use Rattle.forms.specs.Tables.{bytes, form_at}
 use Rattle.places.specs.declared.Position.TheVariants.{Known}
 use Rattle.loans.specs.Loans.{loan_of, stored}
+use Rattle.loans.specs.declared.Loans.{Loans}
 use Rattle.enforcement.specs.States.{assigned_role, loans_of, holds_role, is_open, user_of, position_of}
 use Rattle.enforcement.specs.Steps.{with_time, with_assigned, with_granted, with_loans, with_sessions, with_active, with_history, put, session}
 use Rattle.enforcement.specs.declared.states.State.{State}
@@ -107,5 +108,8 @@ rests s (PlaceWithError i x y e) = is_open s i
 abbrev pub is_loan : Entry → Bool
 is_loan e = eqb (form_of e) 3
 
+abbrev pub has_room_in : Loans → Entry → Bool
+has_room_in loans e = not (is_loan e && leb 32 loans.count)
+
 abbrev pub has_room : State → Entry → Bool
-has_room s e = not (is_loan e && leb 32 s.loans.count)
+has_room s e = has_room_in s.loans e

@@ -4,3 +4,4 @@ pub mod Reading
 pub mod Causes
 pub mod Parts
 pub mod Words
+pub mod Refusals

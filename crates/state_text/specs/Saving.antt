@@ -1,7 +1,7 @@
 -- Document 01, 'Texts': a state's lines in their order, its text, and what writing it gives. Assumes nothing.
 use Rattle.std.specs.Prelude.{ℕ, zero, suc, Bool, true, false, cond, List, [], ◌∷◌, ◌++◌, map, eqb}
 use Rattle.forms.specs.Writing.{written_if, lent_if}
-use Rattle.forms.specs.declared.writing.Written.{Written}
+use Rattle.std.specs.Prelude.{Result}
 use Rattle.places.specs.declared.Point.{Point}
 use Rattle.places.specs.declared.Position.{Position}
 use Rattle.places.specs.declared.Position.TheVariants.{Unknown, Known}
@@ -64,7 +64,7 @@ saved_text s = lines_text (lines_of s)
 
 -- ---- "in writing a text too, 40 comes before 18"
 
-unfoldable pub written_state : State → List ℕ → Written
+unfoldable pub written_state : State → List ℕ → Result ℕ ℕ
 written_state s lent = written_if (state_accepted s) (saved_text s) lent
 
 unfoldable pub lent_state : State → List ℕ → List ℕ

@@ -2,7 +2,7 @@
 ghost use Rattle.std.specs.Prelude.{◌≡◌, ◌+◌, ◌*◌, ◌<◌, length};
 ghost use Rattle.state_text.specs.Entries.{entry_of, form_of, values_of, rank, follows};
 ghost use Rattle.state_text.specs.Causes.{Ranged};
-ghost use Rattle.state_text.specs.Parts.{session_of};
+ghost use Rattle.state_text.specs.Parts.{next_of};
 
 // The forms of a saved state, a line each; a mark stands for a number of its kind.
 pub(crate) const FORMS: [u8; 118] = *b"(now ~)\n\
@@ -15,13 +15,11 @@ pub(crate) const FORMS: [u8; 118] = *b"(now ~)\n\
 (did * % @)\n\
 (place & + + `)\n";
 
-pub(crate) const FORM_COUNT: usize = 9;
-
 // Where each form starts, and where the last one ends.
 pub(crate) const STARTS: [usize; 10] = [0, 8, 23, 37, 52, 63, 77, 90, 102, 118];
 
-// A line, by its form and its numbers.
-#[derive(Clone, Copy)]
+// A line, by its form and its numbers. A form's number is its place in the table.
+#[derive(Clone, Copy, Debug, PartialEq, Eq)]
 pub enum Entry {
     // (now t)
     Now(u64),
@@ -45,8 +43,8 @@ pub enum Entry {
 
 impl Entry {
     // The line that a form says with its values.
+    #[tactic(auto, unfolding(crate::specs::Entries::entry_of))]
     pub(crate) fn of_values(form: usize, values: &[u64; 6]) -> Entry
-        requires { length values.now ≡ 6 }
         ensures { result ≡ entry_of form values.now }
     {
         match form {
@@ -72,23 +70,25 @@ impl Entry {
     }
 
     // The form of a line.
+    #[tactic(auto, unfolding(crate::specs::Entries::form_of))]
     pub(crate) fn form(self) -> usize
         ensures { result ≡ form_of self }
     {
         match self {
-            Entry::Now(_) => 0,
-            Entry::Assigned(_, _) => 1,
-            Entry::Granted(_, _) => 2,
-            Entry::Loan(_, _, _, _) => 3,
-            Entry::Open(_, _) => 4,
-            Entry::Place(_, _, _) => 5,
-            Entry::Active(_, _) => 6,
-            Entry::Did(_, _, _) => 7,
-            Entry::PlaceWithError(_, _, _, _) => 8,
+            Entry::Now(..) => 0,
+            Entry::Assigned(..) => 1,
+            Entry::Granted(..) => 2,
+            Entry::Loan(..) => 3,
+            Entry::Open(..) => 4,
+            Entry::Place(..) => 5,
+            Entry::Active(..) => 6,
+            Entry::Did(..) => 7,
+            Entry::PlaceWithError(..) => 8,
         }
     }
 
     // The values of a line.
+    #[tactic(auto, unfolding(crate::specs::Entries::values_of))]
     pub(crate) fn values(self) -> [u64; 6]
         ensures { result ≡ values_of self }
     {
@@ -99,56 +99,51 @@ impl Entry {
             Entry::Loan(lender, borrower, role, until) => [lender, borrower, role, until, 0, 0],
             Entry::Open(session, user) => [session, user, 0, 0, 0, 0],
             Entry::Place(session, x, y) => {
-                let first = forms::signed_code(x);
-                let second = forms::signed_code(y);
-                [session, first, second, 0, 0, 0]
+                [
+                    session,
+                    forms::signed_code(x),
+                    forms::signed_code(y),
+                    0,
+                    0,
+                    0,
+                ]
             }
             Entry::Active(session, role) => [session, role, 0, 0, 0, 0],
             Entry::Did(object, permission, user) => [object, permission, user, 0, 0, 0],
             Entry::PlaceWithError(session, x, y, error) => {
-                let first = forms::signed_code(x);
-                let second = forms::signed_code(y);
-                [session, first, second, error, 0, 0]
+                [
+                    session,
+                    forms::signed_code(x),
+                    forms::signed_code(y),
+                    error,
+                    0,
+                    0,
+                ]
             }
         }
     }
 
-    // The session that a line names; 0 where it names none.
-    pub(crate) fn session(self) -> usize
-        ensures { result ≡ session_of self }
-    {
-        match self {
-            Entry::Now(_) => 0,
-            Entry::Assigned(_, _) => 0,
-            Entry::Granted(_, _) => 0,
-            Entry::Loan(_, _, _, _) => 0,
-            Entry::Open(session, _) => session as usize,
-            Entry::Place(session, _, _) => session as usize,
-            Entry::Active(session, _) => session as usize,
-            Entry::Did(_, _, _) => 0,
-            Entry::PlaceWithError(session, _, _, _) => session as usize,
-        }
-    }
-
     // Where a line in range stands among all lines that can be.
+    #[tactic(auto, unfolding(crate::specs::Entries::rank))]
     pub(crate) fn rank(self) -> u64
         requires { Ranged self }
         ensures { result ≡ rank self }
     {
         match self {
-            Entry::Now(_) => 0,
+            Entry::Now(..) => 0,
             Entry::Assigned(user, role) => column_rank(1, user, 32, role),
             Entry::Granted(role, permission) => column_rank(2049, role, 32, permission),
             Entry::Loan(lender, borrower, role, _) => {
                 column_rank(3073, column_rank(0, lender, 64, borrower), 32, role)
             }
             Entry::Open(session, _) => column_rank(134145, session, 34, 0),
-            Entry::Place(session, _, _) => column_rank(134145, session, 34, 1),
+            Entry::Place(session, ..) | Entry::PlaceWithError(session, ..) => {
+                column_rank(134145, session, 34, 1)
+            }
             Entry::Active(session, role) => column_rank(134145, session, 34, 2 + role),
             Entry::Did(object, permission, user) => {
                 column_rank(135233, column_rank(0, object, 32, permission), 64, user)
             }
-            Entry::PlaceWithError(session, _, _, _) => column_rank(134145, session, 34, 1),
         }
     }
 }
@@ -161,12 +156,12 @@ fn column_rank(start: u64, row: u64, width: u64, column: u64) -> u64
     start + (row * width + column)
 }
 
-// A line of this rank may stand here: the first one is `now`, a later one stands after the last.
-pub(crate) fn follows(next: u64, rank: u64) -> bool
-    ensures { result ≡ follows next rank }
+// A line of this rank may stand after a line of the last one: the first line is `now`, a later one stands past the last.
+pub(crate) fn follows(last: Option<u64>, rank: u64) -> bool
+    ensures { result ≡ follows (next_of last) rank }
 {
-    if next == 0 {
-        return rank == 0;
+    match last {
+        None => rank == 0,
+        Some(last) => last < rank,
     }
-    next <= rank
 }

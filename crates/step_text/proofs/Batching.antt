@@ -1,18 +1,13 @@
 -- The steps of a text a batch at a time: what a turn of each loop keeps, and that a text's run is that of its front and then of the rest.
 -- Assumes nothing.
 use mathlib.Core.Path.{◌≡◌, refl, sym, ap, ap₂, ◌∙◌, subst}
-use mathlib.Core.Bool.{true, false, ◌&&◌}
-use mathlib.Core.List.{List, [], ◌∷◌, ◌++◌, map, append_assoc}
-use mathlib.Core.Logic.{◌⊎◌, inl, inr}
+use mathlib.Core.List.{List, [], ◌∷◌, ◌++◌, map, append_assoc, append-nil}
 use Prim.Native.Nat.{ℕ, zero, suc, ◌+◌, ◌-◌, ◌≤◌, ◌<◌}
-use native.Mathlib.Nat.{zero-add}
 use native.Mathlib.Numerals.{add-one}
 use native.Mathlib.Omega.{arith}
-use lib.Dec.{ltb}
 use lib.ListN.{length, take, drop, get_or, set, replicate, length-take, length-drop, length-set, length-map, drop_of_length-le}
-use lib.Seq.{drop-cons, drop-drop, take-suc-set, take-append_seam, get_or-take}
-use borrow.Author.Tests.{ltb-true, ltb-false}
-use Rattle.sets.proofs.Booleans.{both, of-and-false}
+use lib.Seq.{drop-cons, drop-drop, take-suc-set, take-append_seam}
+use Rattle.std.specs.Prelude.{Option, Some, None, Result, Ok, Err}
 use Rattle.forms.specs.Writing.{last_place, Wrote}
 use Rattle.forms.proofs.Puts.{then, like, nothing_written, next-most}
 use Rattle.forms.proofs.Puts as puts
@@ -27,28 +22,24 @@ use Rattle.enforcement.specs.declared.states.Next.{Next}
 use Rattle.enforcement.specs.declared.batches.Batch.{Batch}
 use Rattle.enforcement.specs.declared.batches.BatchRun.{BatchRun}
 use Rattle.enforcement.specs.declared.batches.Entry.{Entry}
-use Rattle.step_text.specs.Lines.{read_step, line_length}
+use Rattle.step_text.specs.Lines.{read_step, by_number, line_length}
 use Rattle.step_text.specs.Answers.{answer_text, answers_text}
 use Rattle.step_text.specs.Running.{line_run, run_from, text_run}
 use Rattle.step_text.specs.Batches.{Front, empty_front, line_then, front_of, ReadsFront, entries_text}
 use Rattle.step_text.specs.declared.lines.StepLine.{StepLine}
-use Rattle.step_text.specs.declared.lines.StepRead.{StepRead}
-use Rattle.step_text.specs.declared.lines.StepRead.TheVariants.{Good, Bad}
 use Rattle.step_text.specs.declared.batches.BatchRead.{BatchRead}
 use Rattle.step_text.proofs.Stepping.{one_less, good-within, answers_next, Answering, answers-stop}
 
 -- ---- one line more
 
-front-next : (most : ℕ) (text : List ℕ) → 0 < length text → front_of (suc most) text ≡ line_then (read_step text) (front_of most (drop (line_length (read_step text)) text))
+front-next : (most : ℕ) (text : List ℕ) → front_of (suc most) text ≡ line_then (read_step text) (front_of most (drop (line_length (read_step text)) text))
 unfolding front_of
-front-next most [] h = absurd (omega arith)
-front-next most (c ∷ text) h = refl
-
-front-empty : (most : ℕ) (text : List ℕ) → length text ≤ 0 → front_of most text ≡ empty_front
-unfolding front_of
-front-empty zero text h = refl
-front-empty (suc most) [] h = refl
-front-empty (suc most) (c ∷ text) h = absurd (omega arith)
+front-next most (c ∷ text) = refl
+front-next most [] = go (read_step []) refl
+  where
+    go : (a : Result StepLine ℕ) → a ≡ read_step [] → empty_front ≡ line_then a (front_of most (drop (line_length a) []))
+    go (Err number) e = refl
+    go (Ok line) e = absurd (omega (arith, good-within [] (Ok line) line e refl))
 
 front-full : (text : List ℕ) → front_of 0 text ≡ empty_front
 unfolding front_of
@@ -56,100 +47,75 @@ front-full text = refl
 
 -- ---- reading a batch
 
--- so many steps are read, in so many bytes, and the rest of the text is what is left to read
-pub record Reading (text : List ℕ) (steps : List Step) (remaining : List ℕ) (count bytes : ℕ) : Type 0 where
-  pub most : count ≤ 32
-  pub many : length steps ≡ 32
-  pub within : bytes + length remaining ≤ length text
-  pub read : (front_of 32 text).steps ≡ take count steps ++ (front_of (32 - count) remaining).steps
-  pub taken : (front_of 32 text).bytes ≡ bytes + (front_of (32 - count) remaining).bytes
+-- the batch's steps are read, and the rest of the text is what is left to read
+pub record Reading (text : List ℕ) (batch : Batch) (remaining : List ℕ) : Type 0 where
+  pub most : batch.length ≤ 32
+  pub many : length batch.steps ≡ 32
+  pub within : length remaining ≤ length text
+  pub read : (front_of 32 text).steps ≡ take batch.length batch.steps ++ (front_of (32 - batch.length) remaining).steps
+  pub taken : (front_of 32 text).bytes + length remaining ≡ length text + (front_of (32 - batch.length) remaining).bytes
 
-pub reading-start : (text : List ℕ) (filler : Step) → Reading text (replicate 32 filler) text 0 0
-reading-start text filler = record { most = omega arith; many = refl; within = omega arith; read = refl; taken = sym (zero-add (front_of 32 text).bytes) }
+pub reading-start : (text : List ℕ) (filler : Step) → Reading text (record { steps = replicate 32 filler; length = 0 }) text
+reading-start text filler = record { most = omega arith; many = refl; within = omega arith; read = refl; taken = omega arith }
 
-module _ {text : List ℕ} {steps : List Step} {remaining : List ℕ} {count bytes : ℕ} (v : Reading text steps remaining count bytes) where
+module _ {text : List ℕ} {batch : Batch} {remaining : List ℕ} (v : Reading text batch remaining) where
   -- nothing is left to read
-  reading-done : front_of (32 - count) remaining ≡ empty_front → ReadsFront text (record { batch = record { steps = steps; length = count }; length = bytes })
+  reading-done : front_of (32 - batch.length) remaining ≡ empty_front → ReadsFront text (record { batch = batch; length = length text - length remaining })
   reading-done e =
-      let all : (front_of 32 text).steps ≡ take count steps = v.read ∙ rw e (append-none (take count steps)) in
+      let all : (front_of 32 text).steps ≡ take batch.length batch.steps = v.read ∙ rw e (append-nil (take batch.length batch.steps)) in
       record {
         steps = sym all;
-        number = sym (ap length all ∙ length-take count steps ∙ omega (arith, v.most, v.many));
-        bytes = sym (v.taken ∙ rw e (omega arith));
+        number = sym (ap length all ∙ length-take batch.length batch.steps ∙ omega (arith, v.most, v.many));
+        bytes = omega (arith, v.taken, ap (λ (f : Front). f.bytes) e, v.within);
       }
-    where
-      append-none : (l : List Step) → l ++ [] ≡ l
-      append-none [] = refl
-      append-none (x ∷ l) = ap (λ (r : List Step). x ∷ r) (append-none l)
 
-  pub reading-end : (ltb count 32 && ltb 0 (length remaining)) ≡ false → ReadsFront text (record { batch = record { steps = steps; length = count }; length = bytes })
-  reading-end ended = reading-done (by-test (of-and-false (ltb count 32) (ltb 0 (length remaining)) ended))
-    where
-      by-test : (ltb count 32 ≡ false) ⊎ (ltb 0 (length remaining) ≡ false) → front_of (32 - count) remaining ≡ empty_front
-      by-test (inl e) = let none : 32 - count ≡ 0 = omega (arith, ltb-false count 32 e) in ap (λ (n : ℕ). front_of n remaining) none ∙ front-full remaining
-      by-test (inr e) = front-empty (32 - count) remaining (ltb-false 0 (length remaining) e)
+  pub reading-full : 32 ≤ batch.length → ReadsFront text (record { batch = batch; length = length text - length remaining })
+  reading-full full = let none : 32 - batch.length ≡ 0 = omega arith in reading-done (ap (λ (n : ℕ). front_of n remaining) none ∙ front-full remaining)
 
-  pub reading-few : (ltb count 32 && ltb 0 (length remaining)) ≡ true → count < 32
-  reading-few going = ltb-true count 32 (both (ltb count 32) (ltb 0 (length remaining)) going).0
-
-  module _ (going : (ltb count 32 && ltb 0 (length remaining)) ≡ true) (a : StepRead) (e : a ≡ read_step remaining) where
-    reading-some : 0 < length remaining
-    reading-some = ltb-true 0 (length remaining) (both (ltb count 32) (ltb 0 (length remaining)) going).1
-
-    reading-next : front_of (32 - count) remaining ≡ line_then a (front_of (32 - (count + 1)) (drop (line_length a) remaining))
+  module _ (few : batch.length < 32) (a : Option StepLine) (e : by_number a ≡ read_step remaining) where
+    reading-next : front_of (32 - batch.length) remaining ≡ line_then (by_number a) (front_of (32 - (batch.length + 1)) (drop (line_length (by_number a)) remaining))
     reading-next =
-        let one : 32 - count ≡ suc (32 - (count + 1)) = omega (arith, reading-few going) in
-        ap (λ (n : ℕ). front_of n remaining) one ∙ front-next (32 - (count + 1)) remaining reading-some
-        ∙ ap (λ (x : StepRead). line_then x (front_of (32 - (count + 1)) (drop (line_length x) remaining))) (sym e)
+        let one : 32 - batch.length ≡ suc (32 - (batch.length + 1)) = omega arith in
+        ap (λ (n : ℕ). front_of n remaining) one ∙ front-next (32 - (batch.length + 1)) remaining
+        ∙ ap (λ (x : Result StepLine ℕ). line_then x (front_of (32 - (batch.length + 1)) (drop (line_length x) remaining))) (sym e)
 
-    pub reading-stop : (number : ℕ) → a ≡ Bad number → ReadsFront text (record { batch = record { steps = steps; length = count }; length = bytes })
-    reading-stop number g = reading-done (reading-next ∙ ap (λ (x : StepRead). line_then x (front_of (32 - (count + 1)) (drop (line_length x) remaining))) g)
+    pub reading-stop : a ≡ None → ReadsFront text (record { batch = batch; length = length text - length remaining })
+    reading-stop g = reading-done (reading-next ∙ ap (λ (x : Option StepLine). line_then (by_number x) (front_of (32 - (batch.length + 1)) (drop (line_length (by_number x)) remaining))) g)
 
-    module _ (good : StepLine) (g : a ≡ Good good) where
-      pub reading-fits : good.length ≤ length remaining
-      reading-fits = (good-within remaining a good e g).1
+    module _ (good : StepLine) (g : a ≡ Some good) where
+      pub reading-fits : (0 < good.length) × (good.length ≤ length remaining)
+      reading-fits = good-within remaining (by_number a) good e (ap by_number g)
 
-      pub reading-turn : Reading text (set steps count good.step) (take (length remaining - good.length) (drop good.length remaining)) (count + 1) (bytes + good.length)
+      pub reading-turn : Reading text (record { steps = set batch.steps batch.length good.step; length = batch.length + 1 }) (take (length remaining - good.length) (drop good.length remaining))
       reading-turn =
-          let on : front_of (32 - count) remaining ≡ line_then (Good good) (front_of (32 - (count + 1)) (drop good.length remaining)) =
-          reading-next ∙ ap (λ (x : StepRead). line_then x (front_of (32 - (count + 1)) (drop (line_length x) remaining))) g in
-          let shown : take (count + 1) (set steps count good.step) ≡ take count steps ++ (good.step ∷ []) =
-          ap (λ (n : ℕ). take n (set steps count good.step)) (add-one count) ∙ take-suc-set steps count good.step (omega (arith, reading-few going, v.many)) in
+          let on : front_of (32 - batch.length) remaining ≡ line_then (Ok good) (front_of (32 - (batch.length + 1)) (drop good.length remaining)) =
+          reading-next ∙ ap (λ (x : Option StepLine). line_then (by_number x) (front_of (32 - (batch.length + 1)) (drop (line_length (by_number x)) remaining))) g in
+          let shown : take (batch.length + 1) (set batch.steps batch.length good.step) ≡ take batch.length batch.steps ++ (good.step ∷ []) =
+          ap (λ (n : ℕ). take n (set batch.steps batch.length good.step)) (add-one batch.length) ∙ take-suc-set batch.steps batch.length good.step (omega (arith, v.many)) in
           rw (rest remaining good.length) (record {
-            most = omega (arith, reading-few going);
-            many = length-set steps count good.step ∙ v.many;
-            within = omega (arith, v.within, reading-fits, length-drop good.length remaining);
+            most = omega arith;
+            many = length-set batch.steps batch.length good.step ∙ v.many;
+            within = omega (arith, v.within, length-drop good.length remaining);
             read =
-                v.read ∙ ap (λ (f : Front). take count steps ++ f.steps) on
-                ∙ sym (append_assoc (take count steps) (good.step ∷ []) (front_of (32 - (count + 1)) (drop good.length remaining)).steps)
-                ∙ ap (λ (l : List Step). l ++ (front_of (32 - (count + 1)) (drop good.length remaining)).steps) (sym shown);
-            taken = v.taken ∙ ap (λ (f : Front). bytes + f.bytes) on ∙ omega arith;
+                v.read ∙ ap (λ (f : Front). take batch.length batch.steps ++ f.steps) on
+                ∙ sym (append_assoc (take batch.length batch.steps) (good.step ∷ []) (front_of (32 - (batch.length + 1)) (drop good.length remaining)).steps)
+                ∙ ap (λ (l : List Step). l ++ (front_of (32 - (batch.length + 1)) (drop good.length remaining)).steps) (sym shown);
+            taken = omega (arith, v.taken, ap (λ (f : Front). f.bytes) on, reading-fits, length-drop good.length remaining);
           })
 
       pub reading-less : length (take (length remaining - good.length) (drop good.length remaining)) < length remaining
-      reading-less = rw (rest remaining good.length) (omega (arith, length-drop good.length remaining, good-within remaining a good e g))
+      reading-less = rw (rest remaining good.length) (omega (arith, length-drop good.length remaining, reading-fits))
 
--- ---- writing a batch's answers: to write what is left is to have written it all
+-- ---- writing answers: to write what is left is to have written it all
 
-pub record Writing (entries : List Entry) (count : ℕ) (l₀ : List ℕ) (at : ℕ) (l : List ℕ) (place i : ℕ) : Type 0 where
-  pub below : i ≤ count
-  pub most : i ≤ 32
-  pub many : length entries ≡ 32
+pub record Writing (entries : List Entry) (l₀ : List ℕ) (at : ℕ) (l : List ℕ) (place i : ℕ) : Type 0 where
   pub room : length l₀ ≤ last_place
   pub within : place ≤ last_place
   pub same : length l ≡ length l₀
-  pub left : (r : ℕ) (l' : List ℕ) → Wrote l place (entries_text (drop i (take count entries))) r l' → Wrote l₀ at (entries_text (take count entries)) r l'
+  pub left : (r : ℕ) (l' : List ℕ) → Wrote l place (entries_text (drop i entries)) r l' → Wrote l₀ at (entries_text entries) r l'
 
-pub writing_start : (entries : List Entry) (count : ℕ) (l : List ℕ) (at : ℕ) → length entries ≡ 32 → length l ≤ last_place → at ≤ last_place → Writing entries count l at l at 0
-writing_start entries count l at many m h = record {
-  below = omega arith;
-  most = omega arith;
-  many = many;
-  room = m;
-  within = h;
-  same = refl;
-  left = λ r l' w. w;
-}
+pub writing_start : (entries : List Entry) (l : List ℕ) (at : ℕ) → length l ≤ last_place → at ≤ last_place → Writing entries l at l at 0
+writing_start entries l at m h = record { room = m; within = h; same = refl; left = λ r l' w. w }
 
 text-more : (entry : Entry) (entries : List Entry) → entries_text (entry ∷ entries) ≡ answer_text entry.answer ++ entries_text entries
 unfolding entries_text
@@ -159,41 +125,20 @@ text-none : entries_text [] ≡ []
 unfolding entries_text
 text-none = refl
 
-module _ {entries : List Entry} {count : ℕ} {l₀ : List ℕ} {at : ℕ} {l : List ℕ} {place i : ℕ} (v : Writing entries count l₀ at l place i) where
-  pub writing-few : (ltb i count && ltb i 32) ≡ true → i < 32
-  writing-few going = ltb-true i 32 (both (ltb i count) (ltb i 32) going).1
-
-  pub writing-turn : (going : (ltb i count && ltb i 32) ≡ true) (filler : Entry) {place' : ℕ} {l' : List ℕ} → Wrote l place (answer_text (get_or entries i filler).answer) place' l'
-      → Writing entries count l₀ at l' place' (i + 1)
-  writing-turn going filler {place'} {l'} w =
-      let below : i < count = ltb-true i count (both (ltb i count) (ltb i 32) going).0 in
-      let few : i < 32 = writing-few going in
-      let here : i < length (take count entries) = omega (arith, length-take count entries, v.many) in
-      let on : drop i (take count entries) ≡ get_or entries i filler ∷ drop (i + 1) (take count entries) =
-      drop-cons (take count entries) i filler here
-      ∙ ap₂ (λ (x : Entry) (n : ℕ). x ∷ drop n (take count entries)) (get_or-take count entries i filler below) (sym (add-one i)) in
+module _ {entries : List Entry} {l₀ : List ℕ} {at : ℕ} {l : List ℕ} {place i : ℕ} (v : Writing entries l₀ at l place i) where
+  pub writing-turn : (filler : Entry) → i < length entries → {place' : ℕ} {l' : List ℕ} → Wrote l place (answer_text (get_or entries i filler).answer) place' l'
+      → Writing entries l₀ at l' place' (i + 1)
+  writing-turn filler here {place'} {l'} w =
+      let on : drop i entries ≡ get_or entries i filler ∷ drop (i + 1) entries = drop-cons entries i filler here ∙ ap (λ (n : ℕ). get_or entries i filler ∷ drop n entries) (sym (add-one i)) in
       record {
-        below = omega arith;
-        most = omega arith;
-        many = v.many;
         room = v.room;
         within = next-most w;
         same = puts.same_length w ∙ v.same;
-        left = λ r m z.
-            v.left r m
-            (like (ap entries_text on ∙ text-more (get_or entries i filler) (drop (i + 1) (take count entries)))
-            (then (omega (arith, v.same, v.room)) w z));
+        left = λ r m z. v.left r m (like (ap entries_text on ∙ text-more (get_or entries i filler) (drop (i + 1) entries)) (then (omega (arith, v.same, v.room)) w z));
       }
 
-  pub writing-end : (ltb i count && ltb i 32) ≡ false → Wrote l₀ at (entries_text (take count entries)) place l
-  writing-end ended = v.left place l (like (ap entries_text nothing ∙ text-none) (nothing_written l place v.within))
-    where
-      over : (ltb i count ≡ false) ⊎ (ltb i 32 ≡ false) → length (take count entries) ≤ i
-      over (inl e) = omega (arith, ltb-false i count e, length-take count entries)
-      over (inr e) = omega (arith, ltb-false i 32 e, length-take count entries, v.many)
-
-      nothing : drop i (take count entries) ≡ []
-      nothing = drop_of_length-le (take count entries) {i = i} (over (of-and-false (ltb i count) (ltb i 32) ended))
+  pub writing-end : length entries ≤ i → Wrote l₀ at (entries_text entries) place l
+  writing-end ended = v.left place l (like (ap entries_text (drop_of_length-le entries {i = i} ended) ∙ text-none) (nothing_written l place v.within))
 
 -- ---- a text's run: that of the steps at its front, and then that of the rest from the state handed back
 
@@ -211,7 +156,7 @@ none-run list state text bound enough = record { further = bound; enough = enoug
 line-run : (list : RuleList) (state : State) (text : List ℕ) (bound : ℕ) (good : StepLine) (front : Front) → good.length ≤ length text
     → run_from (suc bound) list state text ≡ step_of list state good.step ∷ run_from bound list (step_of list state good.step).state (drop good.length text)
     → Continued list (step_of list state good.step).state (drop good.length text) bound front
-    → Continued list state text (suc bound) (line_then (Good good) front)
+    → Continued list state text (suc bound) (line_then (Ok good) front)
 unfolding run_of last_state
 line-run list state text bound good front fits one v =
     let next = step_of list state good.step in
@@ -231,16 +176,16 @@ front-run zero bound list state text enough = none-run list state text bound eno
 front-run (suc most) bound list state [] enough = none-run list state [] bound enough
 front-run (suc most) bound list state (c ∷ text) enough = by-line (read_step (c ∷ text)) refl (λ b s t fits. front-run most b list s t fits)
   where
-    by-line : (a : StepRead) → a ≡ read_step (c ∷ text)
+    by-line : (a : Result StepLine ℕ) → a ≡ read_step (c ∷ text)
         → ((b : ℕ) (s : State) (t : List ℕ) → length t ≤ b → Continued list s t b (front_of most t))
         → Continued list state (c ∷ text) bound (line_then a (front_of most (drop (line_length a) (c ∷ text))))
-    by-line (Bad number) e more = none-run list state (c ∷ text) bound enough
-    by-line (Good good) e more =
-        let within = good-within (c ∷ text) (Good good) good e refl in
+    by-line (Err number) e more = none-run list state (c ∷ text) bound enough
+    by-line (Ok good) e more =
+        let within = good-within (c ∷ text) (Ok good) good e refl in
         let less : bound ≡ suc (bound - 1) = one_less (length (c ∷ text)) bound (omega arith) enough in
-        subst (λ (n : ℕ). Continued list state (c ∷ text) n (line_then (Good good) (front_of most (drop good.length (c ∷ text))))) (sym less)
+        subst (λ (n : ℕ). Continued list state (c ∷ text) n (line_then (Ok good) (front_of most (drop good.length (c ∷ text))))) (sym less)
         (line-run list state (c ∷ text) (bound - 1) good (front_of most (drop good.length (c ∷ text))) within.1
-        (answers_next (bound - 1) list state (c ∷ text) (omega arith) ∙ ap (λ (x : StepRead). line_run list state x (λ next. run_from (bound - 1) list next (drop (line_length x) (c ∷ text)))) (sym e))
+        (answers_next (bound - 1) list state (c ∷ text) (omega arith) ∙ ap (λ (x : Result StepLine ℕ). line_run list state x (λ next. run_from (bound - 1) list next (drop (line_length x) (c ∷ text)))) (sym e))
         (more (bound - 1) (step_of list state good.step).state (drop good.length (c ∷ text)) (omega (arith, length-drop good.length (c ∷ text), within.0))))
 
 -- a text whose front has a step has fewer bytes after it
@@ -250,17 +195,17 @@ front-some zero text h = absurd (omega arith)
 front-some (suc most) [] h = absurd (omega arith)
 front-some (suc most) (c ∷ text) h = by-line (read_step (c ∷ text)) refl h
   where
-    by-line : (a : StepRead) → a ≡ read_step (c ∷ text) → 0 < length (line_then a (front_of most (drop (line_length a) (c ∷ text)))).steps → 0 < (line_then a (front_of most (drop (line_length a) (c ∷ text)))).bytes
-    by-line (Bad number) e some = absurd (omega arith)
-    by-line (Good good) e some = omega (arith, (good-within (c ∷ text) (Good good) good e refl).0)
+    by-line : (a : Result StepLine ℕ) → a ≡ read_step (c ∷ text) → 0 < length (line_then a (front_of most (drop (line_length a) (c ∷ text)))).steps → 0 < (line_then a (front_of most (drop (line_length a) (c ∷ text)))).bytes
+    by-line (Err number) e some = absurd (omega arith)
+    by-line (Ok good) e some = omega (arith, (good-within (c ∷ text) (Ok good) good e refl).0)
 
 -- a text with bytes whose front has no step has a bad line first
-front-bad : (most : ℕ) (text : List ℕ) → 0 < length text → length (front_of (suc most) text).steps ≡ 0 → (number : ℕ) × (read_step text ≡ Bad number)
-front-bad most text h none = by-line (read_step text) refl (subst (λ (f : Front). length f.steps ≡ 0) (front-next most text h) none)
+front-bad : (most : ℕ) (text : List ℕ) → 0 < length text → length (front_of (suc most) text).steps ≡ 0 → (number : ℕ) × (read_step text ≡ Err number)
+front-bad most text h none = by-line (read_step text) refl (subst (λ (f : Front). length f.steps ≡ 0) (front-next most text) none)
   where
-    by-line : (a : StepRead) → read_step text ≡ a → length (line_then a (front_of most (drop (line_length a) text))).steps ≡ 0 → (number : ℕ) × (read_step text ≡ Bad number)
-    by-line (Bad number) e z = (number, e)
-    by-line (Good good) e z = absurd (omega arith)
+    by-line : (a : Result StepLine ℕ) → read_step text ≡ a → length (line_then a (front_of most (drop (line_length a) text))).steps ≡ 0 → (number : ℕ) × (read_step text ≡ Err number)
+    by-line (Err number) e z = (number, e)
+    by-line (Ok good) e z = absurd (omega arith)
 
 -- ---- a batch's answers as text
 

@@ -12,6 +12,7 @@ use native.Mathlib.Omega.{arith}
 use lib.ListN.{length, drop, get_or, length-drop}
 use lib.Seq.{drop-append_seam}
 use lib.Dec.{eqb}
+use Rattle.std.specs.Prelude.{Result, Ok, Err}
 use Rattle.sets.proofs.Booleans.{clash}
 use Rattle.steps.specs.Steps.{is_administrative}
 use Rattle.steps.specs.declared.acting.Acting.{Acting}
@@ -25,8 +26,6 @@ use Rattle.step_text.specs.Lines.{step_forms, form_count, step_from, line_after,
 use Rattle.step_text.specs.Rows.{Row, row_by, action_text, acted_text, row_text, ActionWritable, ActingWritable, Writable, HasNumbers, StepStands}
 use Rattle.step_text.specs.Causes.{NoStep, rows_text, AllWritable, no_lines, line_more, AllNumbers, no_steps, step_more, FirstBadStep, GoodSteps}
 use Rattle.step_text.specs.declared.lines.StepLine.{StepLine}
-use Rattle.step_text.specs.declared.lines.StepRead.{StepRead}
-use Rattle.step_text.specs.declared.lines.StepRead.TheVariants.{Good, Bad}
 use Rattle.step_text.proofs.Stepping.{good-within, read_next, one_less}
 use Rattle.step_text.proofs.DigitRuns.{split, digits-all, no-space}
 use Rattle.step_text.proofs.Rows.{form_of, values_of, line_from, one-row, row_read, step_line, every-line}
@@ -36,24 +35,24 @@ differ e = absurd (omega arith)
 
 -- ---- a line
 
-only-10 : (text : List ℕ) (number : ℕ) → read_step text ≡ Bad number → number ≡ 10
+only-10 : (text : List ℕ) (number : ℕ) → read_step text ≡ Err number → number ≡ 10
 unfolding read_step line_after
 only-10 text number h = go (eqb (found step_forms text).form form_count) h
   where
-    go : (b : Bool) → cond b (Bad 10) (Good (record { step = step_from (found step_forms text).form (found step_forms text).values; length = (found step_forms text).length })) ≡ Bad number
+    go : (b : Bool) → cond {A = Result StepLine ℕ} b (Err 10) (Ok (record { step = step_from (found step_forms text).form (found step_forms text).values; length = (found step_forms text).length })) ≡ Err number
         → number ≡ 10
     go true e = cc
     go false e = differ cc
 
-pub step-10 : (text : List ℕ) → (read_step text ≡ Bad 10) ↔ NoStep text
+pub step-10 : (text : List ℕ) → (read_step text ≡ Err 10) ↔ NoStep text
 step-10 text = (none, λ h. go h (read_step text) refl)
   where
-    none : read_step text ≡ Bad 10 → NoStep text
+    none : read_step text ≡ Err 10 → NoStep text
     none e row stands = let read = (step_line text row).1 stands in let good = read.read in differ cc
 
-    go : NoStep text → (r : StepRead) → read_step text ≡ r → read_step text ≡ Bad 10
-    go h (Good line) e = let there = every-line text line e in absurd (h there.0 there.1)
-    go h (Bad number) e = e ∙ ap Bad (only-10 text number e)
+    go : NoStep text → (r : Result StepLine ℕ) → read_step text ≡ r → read_step text ≡ Err 10
+    go h (Ok line) e = let there = every-line text line e in absurd (h there.0 there.1)
+    go h (Err number) e = e ∙ ap Err (only-10 text number e)
 
 -- ---- 2026-05: `by` where it cannot stand
 
@@ -106,7 +105,7 @@ not-behind-by s text other row stands = go row.by stands.writable.acting stands.
 
 -- "`by` before any other step .. is 10 in a text": open, activate, deactivate, access, finish, close, move, lost and clock, with any numbers
 pub by-before-other : (s : ℕ) (action : Action) (rest : List ℕ) → (action ≡ Malformed → ⊥) → is_administrative action ≡ false
-    → read_step (row_text (row_by (InSession s) action) ++ rest) ≡ Bad 10
+    → read_step (row_text (row_by (InSession s) action) ++ rest) ≡ Err 10
 unfolding row_text
 by-before-other s action rest proper other =
     let later = action_text action (bytes "))\n") ++ rest in
@@ -114,7 +113,7 @@ by-before-other s action rest proper other =
     ∙ (step-10 (bytes "(by " ++ (digits_of s ++ (bytes " " ++ later)))).1 (not-behind-by s later ((word-begins action (bytes "))\n") rest proper).kind ∙ other))
 
 -- ".. or before another `by`"
-pub by-before-by : (s : ℕ) (rest : List ℕ) → read_step (bytes "(by " ++ (digits_of s ++ (bytes " (by " ++ rest))) ≡ Bad 10
+pub by-before-by : (s : ℕ) (rest : List ℕ) → read_step (bytes "(by " ++ (digits_of s ++ (bytes " (by " ++ rest))) ≡ Err 10
 by-before-by s rest = (step-10 (bytes "(by " ++ (digits_of s ++ (bytes " (by " ++ rest)))).1 (not-behind-by s (bytes "(by " ++ rest) refl)
 
 -- ---- one line and those after it
@@ -131,11 +130,11 @@ bounded (suc b) zero n (x ∷ text) k l = absurd (omega arith)
 bounded (suc b) (suc c) n (x ∷ text) k l =
     go (read_step (x ∷ text)) refl (λ h. bounded b c (suc n) (drop (line_length (read_step (x ∷ text))) (x ∷ text)) (omega (arith, length-drop (line_length (read_step (x ∷ text))) (x ∷ text))) (omega (arith, length-drop (line_length (read_step (x ∷ text))) (x ∷ text))))
   where
-    go : (r : StepRead) → read_step (x ∷ text) ≡ r
+    go : (r : Result StepLine ℕ) → read_step (x ∷ text) ≡ r
         → (0 < line_length r → read_from b (suc n) (drop (line_length r) (x ∷ text)) ≡ read_from c (suc n) (drop (line_length r) (x ∷ text)))
         → after n r (read_from b (suc n) (drop (line_length r) (x ∷ text))) ≡ after n r (read_from c (suc n) (drop (line_length r) (x ∷ text)))
-    go (Bad number) e next = refl
-    go (Good line) e next = ap (onto line.step) (next (good-within (x ∷ text) (Good line) line (sym e) refl).0)
+    go (Err number) e next = refl
+    go (Ok line) e next = ap (onto line.step) (next (good-within (x ∷ text) (Ok line) line (sym e) refl).0)
 
 -- where no line is left
 nothing_left : (n : ℕ) → read_steps n [] ≡ steps []
@@ -147,16 +146,16 @@ first-line : (n : ℕ) (text : List ℕ) → 0 < length text
 unfolding read_steps
 first-line n text h = ap (λ (b : ℕ). read_from b n text) (one_less (length text) (length text) h (omega arith)) ∙ read_next (length text - 1) n text h
 
-bad-line : (n : ℕ) (text : List ℕ) (number : ℕ) → 0 < length text → read_step text ≡ Bad number → read_steps n text ≡ bad n
+bad-line : (n : ℕ) (text : List ℕ) (number : ℕ) → 0 < length text → read_step text ≡ Err number → read_steps n text ≡ bad n
 bad-line n text number h e =
-    first-line n text h ∙ ap (λ (r : StepRead). after n r (read_from (length text - 1) (suc n) (drop (line_length r) text))) e
+    first-line n text h ∙ ap (λ (r : Result StepLine ℕ). after n r (read_from (length text - 1) (suc n) (drop (line_length r) text))) e
 
-good-line : (n : ℕ) (text : List ℕ) (line : StepLine) → read_step text ≡ Good line → read_steps n text ≡ onto line.step (read_steps (suc n) (drop line.length text))
+good-line : (n : ℕ) (text : List ℕ) (line : StepLine) → read_step text ≡ Ok line → read_steps n text ≡ onto line.step (read_steps (suc n) (drop line.length text))
 unfolding read_steps
 good-line n text line e =
-    let within = good-within text (Good line) line (sym e) refl in
+    let within = good-within text (Ok line) line (sym e) refl in
     first-line n text (omega (arith, within))
-    ∙ ap (λ (r : StepRead). after n r (read_from (length text - 1) (suc n) (drop (line_length r) text))) e
+    ∙ ap (λ (r : Result StepLine ℕ). after n r (read_from (length text - 1) (suc n) (drop (line_length r) text))) e
     ∙ ap (onto line.step)
     (bounded (length text - 1) (length (drop line.length text)) (suc n) (drop line.length text) (omega (arith, within, length-drop line.length text)) (omega arith))
 
@@ -198,7 +197,7 @@ row-numbers [] no_lines = no_steps
 row-numbers (row ∷ lines) (line_more w v) =
     let stands : StepStands (row_text row ++ []) row = record { writable = w; rest = []; reads = refl } in
     let read = (step_line (row_text row ++ []) row).1 stands in
-    let whole : Good read.line ≡ Good (line_from (form_of row) (values_of row) (length (row_text row))) = sym read.read ∙ row_read row [] w in
+    let whole : Ok read.line ≡ Ok (line_from (form_of row) (values_of row) (length (row_text row))) = sym read.read ∙ row_read row [] w in
     let same : read.line ≡ line_from (form_of row) (values_of row) (length (row_text row)) = cc in
     step_more (step_at row) row (subst (λ (l : StepLine). HasNumbers l.step row) same read.numbers) (row-numbers lines v)
 
@@ -244,8 +243,8 @@ all_say zero m (c ∷ text) h = absurd (omega arith)
 all_say (suc bound) m [] h = none-say m
 all_say (suc bound) m (c ∷ text) h = go (read_step (c ∷ text)) refl (λ n some. all_say bound (suc m) (drop n (c ∷ text)) (omega (arith, length-drop n (c ∷ text))))
   where
-    go : (r : StepRead) → read_step (c ∷ text) ≡ r → ((n : ℕ) → 0 < n → Says (suc m) (drop n (c ∷ text)) (read_steps (suc m) (drop n (c ∷ text)))) → Says m (c ∷ text) (read_steps m (c ∷ text))
-    go (Bad number) e next =
+    go : (r : Result StepLine ℕ) → read_step (c ∷ text) ≡ r → ((n : ℕ) → 0 < n → Says (suc m) (drop n (c ∷ text)) (read_steps (suc m) (drop n (c ∷ text)))) → Says m (c ∷ text) (read_steps m (c ∷ text))
+    go (Err number) e next =
         rw (bad-line m (c ∷ text) number (omega arith) e)
         (record {
           lines = [];
@@ -254,12 +253,12 @@ all_say (suc bound) m (c ∷ text) h = go (read_step (c ∷ text)) refl (λ n so
           whole = refl;
           place = sym (add-zero m);
           some = omega arith;
-          none = (step-10 (c ∷ text)).0 (e ∙ ap Bad (only-10 (c ∷ text) number e));
+          none = (step-10 (c ∷ text)).0 (e ∙ ap Err (only-10 (c ∷ text) number e));
         })
-    go (Good line) e next =
+    go (Ok line) e next =
         let there = every-line (c ∷ text) line e in
         rw (good-line m (c ∷ text) line e)
-        (say-more m (c ∷ text) line there.0 there.1 there.2 there.3 (read_steps (suc m) (drop line.length (c ∷ text))) (next line.length (good-within (c ∷ text) (Good line) line (sym e) refl).0))
+        (say-more m (c ∷ text) line there.0 there.1 there.2 there.3 (read_steps (suc m) (drop line.length (c ∷ text))) (next line.length (good-within (c ∷ text) (Ok line) line (sym e) refl).0))
 
 -- ---- the laws
 

@@ -12,6 +12,7 @@ use lib.Seq.{sets}
 use lib.Dec.{eqb, ltb, leb}
 use lib.IntN.{ℤ, pos, negsuc}
 use borrow.Author.Tests.{eqb-true, eqb-false, ne_eqb, lt-ltb, le-ltb, ltb-true, ltb-false, le-leb, leb-true, not-true}
+use Rattle.std.specs.Prelude.{Result, Ok, Err}
 use Rattle.sets.proofs.Booleans.{both, both_true}
 use Rattle.places.specs.Places.{on_grid}
 use Rattle.steps.specs.declared.acting.Acting.{Acting}
@@ -28,7 +29,6 @@ use Rattle.forms.proofs.Finding.{found-hits, found-written}
 use Rattle.step_text.specs.Lines.{form_lines, step_forms, form_count, step_from, line_after, read_step}
 use Rattle.step_text.specs.Rows.{Row, row_by, error_text, action_text, row_text, amount, ActionWritable, ActingWritable, Writable, HasActionNumbers, HasNumbers, ActionInRange, ActingInRange, RowInRange, ReadAs, StepStands}
 use Rattle.step_text.specs.declared.lines.StepLine.{StepLine}
-use Rattle.step_text.specs.declared.lines.StepRead.TheVariants.{Good, Bad}
 use Rattle.step_text.proofs.Stepping.{lines-right, forms-distinct, forms-counted, below}
 
 -- ---- whole numbers: as a text, and as a value of a form
@@ -559,12 +559,12 @@ abbrev pub line_from : ℕ → List ℕ → ℕ → StepLine
 line_from form values size = record { step = step_from form values; length = size }
 
 -- what was found is a row's line
-good-row : (text : List ℕ) (line : StepLine) → read_step text ≡ Good line → StepStands text (row_of line.step) × HasNumbers line.step (row_of line.step)
+good-row : (text : List ℕ) (line : StepLine) → read_step text ≡ Ok line → StepStands text (row_of line.step) × HasNumbers line.step (row_of line.step)
 unfolding read_step line_after
 good-row text line good = go (eqb (found step_forms text).form form_count) refl good
   where
     go : (b : Bool) → eqb (found step_forms text).form form_count ≡ b
-        → cond b (Bad 10) (Good (line_from (found step_forms text).form (found step_forms text).values (found step_forms text).length)) ≡ Good line
+        → cond {A = Result StepLine ℕ} b (Err 10) (Ok (line_from (found step_forms text).form (found step_forms text).values (found step_forms text).length)) ≡ Ok line
         → StepStands text (row_of line.step) × HasNumbers line.step (row_of line.step)
     go true e h = let none : ◌≡◌ {A = ℕ} 0 1 = cc in absurd (omega arith)
     go false e h =
@@ -577,7 +577,7 @@ good-row text line good = go (eqb (found step_forms text).form form_count) refl 
           record { numbers = says.numbers; by = refl },
         )
 
-after-found : (form : ℕ) (values : List ℕ) (size : ℕ) → form < 22 → line_after (record { form = form; values = values; length = size }) ≡ Good (line_from form values size)
+after-found : (form : ℕ) (values : List ℕ) (size : ℕ) → form < 22 → line_after (record { form = form; values = values; length = size }) ≡ Ok (line_from form values size)
 unfolding line_after
 after-found form values size h = rw (ne_eqb form form_count (λ e. omega arith))
 
@@ -609,7 +609,7 @@ few-slots k = few-at form_lines k refl
 
 -- a row's line is read, whatever follows it
 pub row_read : (row : Row) (rest : List ℕ) → Writable row
-    → read_step (row_text row ++ rest) ≡ Good (line_from (form_of row) (values_of row) (length (row_text row)))
+    → read_step (row_text row ++ rest) ≡ Ok (line_from (form_of row) (values_of row) (length (row_text row)))
 unfolding read_step
 row_read row rest w =
     let form = form-of row w in
@@ -642,12 +642,12 @@ step_line text row = (stands, read)
         }
 
 -- and no line is read that is not a row's
-pub every-line : (text : List ℕ) (line : StepLine) → read_step text ≡ Good line
+pub every-line : (text : List ℕ) (line : StepLine) → read_step text ≡ Ok line
     → (row : Row) × (StepStands text row) × (HasNumbers line.step row) × (line.length ≡ length (row_text row))
 every-line text line good =
     let there = good-row text line good in
     let read = (step_line text (row_of line.step)).1 there.0 in
-    let whole : Good read.line ≡ Good line = sym read.read ∙ good in
+    let whole : Ok read.line ≡ Ok line = sym read.read ∙ good in
     let same : read.line ≡ line = cc in
     (row_of line.step, there.0, there.1, ap (λ (l : StepLine). l.length) (sym same) ∙ read.size)
 

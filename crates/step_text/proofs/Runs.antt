@@ -2,9 +2,9 @@
 -- Assumes nothing.
 use mathlib.Core.Path.{◌≡◌, refl, sym, ap, ◌∙◌}
 use mathlib.Core.List.{List, [], ◌∷◌}
-use Prim.Native.Nat.{ℕ, zero, suc, ◌<◌}
-use native.Mathlib.Omega.{arith}
+use Prim.Native.Nat.{ℕ, zero, suc}
 use lib.ListN.{length, drop}
+use Rattle.std.specs.Prelude.{Result, Ok, Err}
 use Rattle.rules.specs.declared.lists.RuleList.{RuleList}
 use Rattle.enforcement.specs.Gate.{step_of, run_of}
 use Rattle.enforcement.specs.declared.states.State.{State}
@@ -12,8 +12,7 @@ use Rattle.steps.specs.declared.steps.Step.{Step}
 use Rattle.enforcement.specs.declared.states.Next.{Next}
 use Rattle.step_text.specs.Lines.{read_step, StepsRead, steps, bad, line_length, after, read_from, read_steps}
 use Rattle.step_text.specs.Running.{line_run, run_from, text_run}
-use Rattle.step_text.specs.declared.lines.StepRead.{StepRead}
-use Rattle.step_text.specs.declared.lines.StepRead.TheVariants.{Good, Bad}
+use Rattle.step_text.specs.declared.lines.StepLine.{StepLine}
 
 -- where every line is a step, what comes of the lines is the run over them
 abbrev pub Runs : RuleList → State → List Next → StepsRead → Type 0
@@ -24,11 +23,11 @@ run-next : (rules : RuleList) (s : State) (step : Step) (list : List Step) → r
 unfolding run_of
 run-next rules s step list = refl
 
-runs_after : (rules : RuleList) (s : State) (n : ℕ) (a : StepRead) (rest : State → List Next) (r : StepsRead) → ((next : State) → Runs rules next (rest next) r)
+runs_after : (rules : RuleList) (s : State) (n : ℕ) (a : Result StepLine ℕ) (rest : State → List Next) (r : StepsRead) → ((next : State) → Runs rules next (rest next) r)
     → Runs rules s (line_run rules s a rest) (after n a r)
-runs_after rules s n (Bad number) rest r h = tt
-runs_after rules s n (Good line) rest (bad k) h = tt
-runs_after rules s n (Good line) rest (steps list) h =
+runs_after rules s n (Err number) rest r h = tt
+runs_after rules s n (Ok line) rest (bad k) h = tt
+runs_after rules s n (Ok line) rest (steps list) h =
     ap (λ (run : List Next). step_of rules s line.step ∷ run) (h (step_of rules s line.step).state) ∙ sym (run-next rules s line.step list)
 
 runs-from : (bound n : ℕ) (rules : RuleList) (s : State) (text : List ℕ) → Runs rules s (run_from bound rules s text) (read_from bound n text)
@@ -43,25 +42,3 @@ runs-from (suc bound) n rules s (c ∷ text) =
 pub answers-run : (n : ℕ) (rules : RuleList) (s : State) (text : List ℕ) → Runs rules s (text_run rules s text) (read_steps n text)
 unfolding read_steps
 answers-run n rules s text = runs-from (length text) n rules s text
-
--- ---- lines are counted from 1, so that 0 stands for none
-
-abbrev pub Positive : StepsRead → Type 0
-Positive (steps list) = Unit {0}
-Positive (bad line) = 0 < line
-
-positive-after : (n : ℕ) (a : StepRead) (r : StepsRead) → 0 < n → Positive r → Positive (after n a r)
-positive-after n (Bad number) r h p = h
-positive-after n (Good line) (steps list) h p = tt
-positive-after n (Good line) (bad k) h p = p
-
-positive-from : (bound n : ℕ) (text : List ℕ) → 0 < n → Positive (read_from bound n text)
-unfolding read_from
-positive-from zero n text h = tt
-positive-from (suc bound) n [] h = tt
-positive-from (suc bound) n (c ∷ text) h =
-    positive-after n (read_step (c ∷ text)) _ h (positive-from bound (suc n) (drop (line_length (read_step (c ∷ text))) (c ∷ text)) (omega arith))
-
-pub positive : (text : List ℕ) → Positive (read_steps 1 text)
-unfolding read_steps
-positive text = positive-from (length text) 1 text (omega arith)

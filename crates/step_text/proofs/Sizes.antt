@@ -7,6 +7,7 @@ use native.Mathlib.Omega.{arith}
 use lib.ListN.{length, drop, get_or, length-append, length-drop}
 use lib.Dec.{leb, eqb}
 use borrow.Author.Tests.{leb-true, eqb-false}
+use Rattle.std.specs.Prelude.{Result, Ok, Err}
 use Rattle.sets.proofs.Booleans.{both}
 use Rattle.forms.specs.Numbers.{digits_of}
 use Rattle.forms.specs.Kinds.{is_slot, kind_of, lookup}
@@ -26,9 +27,8 @@ use Rattle.enforcement.proofs.AnswerFits.{answer_back}
 use Rattle.enforcement.proofs.Reaching.{step-accepted}
 use Rattle.step_text.specs.Lines.{form_lines, step_forms, form_count, step_from, line_after, read_step, StepsRead, steps, bad, line_length, after, read_from, read_steps}
 use Rattle.step_text.specs.Answers.{answer_forms, line_text, answer_text, bad_text, answers_text}
-use Rattle.step_text.specs.declared.lines.StepRead.{StepRead}
-use Rattle.step_text.specs.declared.lines.StepRead.TheVariants.{Good, Bad}
 use Rattle.step_text.proofs.Stepping.{lines-right, forms-distinct, forms-counted, below}
+use Rattle.step_text.specs.declared.lines.StepLine.{StepLine}
 
 -- ---- an answer's line
 
@@ -110,16 +110,16 @@ form-long : (k : ℕ) → k < length (lines_in step_forms) → 9 ≤ length (for
 unfolding form_at
 form-long k h = long-at (lines_in step_forms) k forms-long h
 
-abbrev Long : List ℕ → StepRead → Type 0
-Long text (Good line) = (9 ≤ line.length) × (line.length ≤ length text)
-Long text (Bad number) = Unit {0}
+abbrev Long : List ℕ → Result StepLine ℕ → Type 0
+Long text (Ok line) = (9 ≤ line.length) × (line.length ≤ length text)
+Long text (Err number) = Unit {0}
 
 line-long : (text : List ℕ) → Long text (read_step text)
 unfolding read_step line_after
 line-long text = go (eqb (found step_forms text).form form_count) refl (found-hits step_forms text forms-distinct)
   where
     go : (b : Bool) → eqb (found step_forms text).form form_count ≡ b → Hits step_forms text (found step_forms text)
-        → Long text (cond b (Bad 10) (Good (record { step = step_from (found step_forms text).form (found step_forms text).values; length = (found step_forms text).length })))
+        → Long text (cond b (Err 10) (Ok (record { step = step_from (found step_forms text).form (found step_forms text).values; length = (found step_forms text).length })))
     go true e h = tt
     go false e h =
         let less = below (found step_forms text).form (length (lines_in step_forms)) h.most (λ q. eqb-false (found step_forms text).form form_count e (q ∙ forms-counted)) in
@@ -130,10 +130,10 @@ abbrev pub Sized : ℕ → List ℕ → StepsRead → Type 0
 Sized n text (steps read) = 9 * length read ≤ length text
 Sized n text (bad line) = line < n + length text
 
-sized-after : (n : ℕ) (text : List ℕ) (a : StepRead) (r : StepsRead) → 0 < length text → Long text a → Sized (suc n) (drop (line_length a) text) r → Sized n text (after n a r)
-sized-after n text (Bad number) r h l w = omega arith
-sized-after n text (Good line) (steps read) h l w = omega (arith, length-drop line.length text, l)
-sized-after n text (Good line) (bad k) h l w = omega (arith, length-drop line.length text, l)
+sized-after : (n : ℕ) (text : List ℕ) (a : Result StepLine ℕ) (r : StepsRead) → 0 < length text → Long text a → Sized (suc n) (drop (line_length a) text) r → Sized n text (after n a r)
+sized-after n text (Err number) r h l w = omega arith
+sized-after n text (Ok line) (steps read) h l w = omega (arith, length-drop line.length text, l)
+sized-after n text (Ok line) (bad k) h l w = omega (arith, length-drop line.length text, l)
 
 sized-from : (bound n : ℕ) (text : List ℕ) → Sized n text (read_from bound n text)
 unfolding read_from

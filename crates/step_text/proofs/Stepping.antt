@@ -8,6 +8,7 @@ use native.Mathlib.Omega.{arith}
 use lib.ListN.{length, take, drop, length-drop}
 use lib.Dec.{eqb}
 use borrow.Author.Tests.{eqb-false}
+use Rattle.std.specs.Prelude.{Option, Some, None, Result, Ok, Err}
 use Rattle.forms.specs.Numbers.{is_digit}
 use Rattle.forms.specs.Kinds.{is_slot, kind_of, lookup}
 use Rattle.forms.specs.Tables.{lines_in, starts_from, starts_of, found, distinct}
@@ -18,12 +19,10 @@ use Rattle.forms.proofs.Turns.{rest}
 use Rattle.rules.specs.declared.lists.RuleList.{RuleList}
 use Rattle.enforcement.specs.Runs.{last_state}
 use Rattle.enforcement.specs.declared.states.State.{State}
-use Rattle.step_text.specs.Lines.{form_lines, step_forms, form_count, step_from, line_after, read_step, StepsRead, steps, bad, line_length, after, read_from, read_steps, bad_line}
+use Rattle.step_text.specs.Lines.{form_lines, step_forms, form_count, step_from, line_after, read_step, by_number, StepsRead, steps, bad, line_length, after, read_from, read_steps, bad_line}
 use Rattle.step_text.specs.Answers.{answers_text}
 use Rattle.step_text.specs.Running.{line_run, run_from, text_run}
 use Rattle.step_text.specs.declared.lines.StepLine.{StepLine}
-use Rattle.step_text.specs.declared.lines.StepRead.{StepRead}
-use Rattle.step_text.specs.declared.lines.StepRead.TheVariants.{Good, Bad}
 
 -- ---- the table: antt computes the tests
 
@@ -49,9 +48,9 @@ index-right = ap (λ (l : List (List ℕ)). starts_from 0 l) (sym lines-right)
 
 -- ---- a good line has a byte at least, and no more than the text
 
-abbrev Within : List ℕ → StepRead → Type 0
-Within text (Good line) = (0 < line.length) × (line.length ≤ length text)
-Within text (Bad number) = Unit {0}
+abbrev Within : List ℕ → Result StepLine ℕ → Type 0
+Within text (Ok line) = (0 < line.length) × (line.length ≤ length text)
+Within text (Err number) = Unit {0}
 
 pub below : (a b : ℕ) → a ≤ b → (a ≡ b → ⊥) → a < b
 below a b l n = omega (arith, n)
@@ -61,14 +60,14 @@ unfolding read_step line_after
 line-within text = go (eqb (found step_forms text).form form_count) refl (found-hits step_forms text forms-distinct)
   where
     go : (b : Bool) → eqb (found step_forms text).form form_count ≡ b → Hits step_forms text (found step_forms text)
-        → Within text (cond b (Bad 10) (Good (record { step = step_from (found step_forms text).form (found step_forms text).values; length = (found step_forms text).length })))
+        → Within text (cond b (Err 10) (Ok (record { step = step_from (found step_forms text).form (found step_forms text).values; length = (found step_forms text).length })))
     go true e h = tt
     go false e h =
         let less : (found step_forms text).form < length (lines_in step_forms) =
         below (found step_forms text).form (length (lines_in step_forms)) h.most (λ q. eqb-false (found step_forms text).form form_count e (q ∙ forms-counted)) in
         (h.some less, h.short)
 
-pub good-within : (text : List ℕ) (a : StepRead) (line : StepLine) → a ≡ read_step text → a ≡ Good line → (0 < line.length) × (line.length ≤ length text)
+pub good-within : (text : List ℕ) (a : Result StepLine ℕ) (line : StepLine) → a ≡ read_step text → a ≡ Ok line → (0 < line.length) × (line.length ≤ length text)
 good-within text a line e g = subst (Within text) (sym e ∙ g) (line-within text)
 
 -- ---- looking for the first bad line
@@ -90,7 +89,7 @@ unfolding read_from
 read_next bound n [] h = absurd (omega arith)
 read_next bound n (c ∷ text) h = refl
 
-onto-bad : (n : ℕ) (line : StepLine) (r : StepsRead) → bad_line (after n (Good line) r) ≡ bad_line r
+onto-bad : (n : ℕ) (line : StepLine) (r : StepsRead) → bad_line (after n (Ok line) r) ≡ bad_line r
 onto-bad n line (steps list) = refl
 onto-bad n line (bad k) = refl
 
@@ -98,24 +97,24 @@ onto-bad n line (bad k) = refl
 pub one_less : (n bound : ℕ) → 0 < n → n ≤ bound → bound ≡ suc (bound - 1)
 one_less n bound h l = omega arith
 
-module _ {text remaining : List ℕ} {line : ℕ} (v : Check text remaining line) (h : 0 < length remaining) (a : StepRead) (e : a ≡ read_step remaining) where
-  here : bad_line (read_steps 1 text) ≡ bad_line (after line a (read_from (v.bound - 1) (suc line) (drop (line_length a) remaining)))
+module _ {text remaining : List ℕ} {line : ℕ} (v : Check text remaining line) (h : 0 < length remaining) (a : Option StepLine) (e : by_number a ≡ read_step remaining) where
+  here : bad_line (read_steps 1 text) ≡ bad_line (after line (by_number a) (read_from (v.bound - 1) (suc line) (drop (line_length (by_number a)) remaining)))
   here =
       v.same
       ∙ ap (λ (n : ℕ). bad_line (read_from n line remaining)) (one_less (length remaining) v.bound h v.enough)
       ∙ ap bad_line (read_next (v.bound - 1) line remaining h)
-      ∙ ap (λ (x : StepRead). bad_line (after line x (read_from (v.bound - 1) (suc line) (drop (line_length x) remaining)))) (sym e)
+      ∙ ap (λ (x : Result StepLine ℕ). bad_line (after line x (read_from (v.bound - 1) (suc line) (drop (line_length x) remaining)))) (sym e)
 
-  pub check-stop : (number : ℕ) → a ≡ Bad number → line ≡ bad_line (read_steps 1 text)
-  check-stop number g =
-      sym (here ∙ ap (λ (x : StepRead). bad_line (after line x (read_from (v.bound - 1) (suc line) (drop (line_length x) remaining)))) g)
+  pub check-stop : a ≡ None → Some line ≡ bad_line (read_steps 1 text)
+  check-stop g =
+      sym (here ∙ ap (λ (x : Result StepLine ℕ). bad_line (after line x (read_from (v.bound - 1) (suc line) (drop (line_length x) remaining)))) (ap by_number g))
 
-  module _ (good : StepLine) (g : a ≡ Good good) where
+  module _ (good : StepLine) (g : a ≡ Some good) where
     pub check-fits : good.length ≤ length remaining
-    check-fits = (good-within remaining a good e g).1
+    check-fits = (good-within remaining (by_number a) good e (ap by_number g)).1
 
     pub check-less : length (take (length remaining - good.length) (drop good.length remaining)) < length remaining
-    check-less = rw (rest remaining good.length) (omega (arith, length-drop good.length remaining, good-within remaining a good e g))
+    check-less = rw (rest remaining good.length) (omega (arith, length-drop good.length remaining, good-within remaining (by_number a) good e (ap by_number g)))
 
     pub check-turn : Check text (take (length remaining - good.length) (drop good.length remaining)) (line + 1)
     check-turn = record {
@@ -124,15 +123,15 @@ module _ {text remaining : List ℕ} {line : ℕ} (v : Check text remaining line
       few = omega (arith, check-less, v.few);
       same =
           here
-          ∙ ap (λ (x : StepRead). bad_line (after line x (read_from (v.bound - 1) (suc line) (drop (line_length x) remaining)))) g
+          ∙ ap (λ (x : Result StepLine ℕ). bad_line (after line x (read_from (v.bound - 1) (suc line) (drop (line_length x) remaining)))) (ap by_number g)
           ∙ onto-bad line good (read_from (v.bound - 1) (suc line) (drop good.length remaining))
           ∙ rw (rest remaining good.length, add-one);
     }
 
-pub check-end : {text remaining : List ℕ} {line : ℕ} → Check text remaining line → length remaining ≤ 0 → 0 ≡ bad_line (read_steps 1 text)
+pub check-end : {text remaining : List ℕ} {line : ℕ} → Check text remaining line → length remaining ≤ 0 → None ≡ bad_line (read_steps 1 text)
 check-end {text} {remaining} {line} v h = sym (v.same ∙ go v.bound remaining h)
   where
-    go : (bound : ℕ) (l : List ℕ) → length l ≤ 0 → bad_line (read_from bound line l) ≡ 0
+    go : (bound : ℕ) (l : List ℕ) → length l ≤ 0 → bad_line (read_from bound line l) ≡ None
     go zero l k = unfold read_from in refl
     go (suc bound) [] k = unfold read_from in refl
     go (suc bound) (c ∷ l) k = absurd (omega arith)
@@ -183,16 +182,16 @@ ended {list} {s₀} {text} {l₀} {at} {l} {state} {remaining} {place} v e = (
 )
 
 module _ {list : RuleList} {s₀ : State} {text l₀ : List ℕ} {at : ℕ} {l : List ℕ} {state : State} {remaining : List ℕ} {place : ℕ}
-    (v : Answering list s₀ text l₀ at l state remaining place) (h : 0 < length remaining) (a : StepRead) (e : a ≡ read_step remaining) where
+    (v : Answering list s₀ text l₀ at l state remaining place) (h : 0 < length remaining) (a : Result StepLine ℕ) (e : a ≡ read_step remaining) where
   line-next : run_from v.bound list state remaining ≡ line_run list state a (λ next. run_from (v.bound - 1) list next (drop (line_length a) remaining))
   line-next =
       ap (λ (n : ℕ). run_from n list state remaining) (one_less (length remaining) v.bound h v.enough)
       ∙ answers_next (v.bound - 1) list state remaining h
-      ∙ ap (λ (x : StepRead). line_run list state x (λ next. run_from (v.bound - 1) list next (drop (line_length x) remaining))) (sym e)
+      ∙ ap (λ (x : Result StepLine ℕ). line_run list state x (λ next. run_from (v.bound - 1) list next (drop (line_length x) remaining))) (sym e)
 
-  pub answers-stop : (number : ℕ) → a ≡ Bad number → Wrote l₀ at (answers_text (text_run list s₀ text)) place l × (state ≡ last_state s₀ (text_run list s₀ text))
+  pub answers-stop : (number : ℕ) → a ≡ Err number → Wrote l₀ at (answers_text (text_run list s₀ text)) place l × (state ≡ last_state s₀ (text_run list s₀ text))
   answers-stop number g =
-      ended v (line-next ∙ ap (λ (x : StepRead). line_run list state x (λ next. run_from (v.bound - 1) list next (drop (line_length x) remaining))) g)
+      ended v (line-next ∙ ap (λ (x : Result StepLine ℕ). line_run list state x (λ next. run_from (v.bound - 1) list next (drop (line_length x) remaining))) g)
 
 pub answers-end : {list : RuleList} {s₀ : State} {text l₀ : List ℕ} {at : ℕ} {l : List ℕ} {state : State} {remaining : List ℕ} {place : ℕ}
     → Answering list s₀ text l₀ at l state remaining place → length remaining ≤ 0

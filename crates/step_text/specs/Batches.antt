@@ -1,14 +1,13 @@
 -- The steps at the front of a text, a batch of them at a time, as the code reads and answers them.
 -- Assumes nothing.
-use Rattle.std.specs.Prelude.{ℕ, zero, suc, ◌+◌, ◌≡◌, List, [], ◌∷◌, ◌++◌, length, drop}
+use Rattle.std.specs.Prelude.{ℕ, zero, suc, ◌+◌, ◌≡◌, List, [], ◌∷◌, ◌++◌, length, drop, Result, Ok, Err}
 use Rattle.steps.specs.declared.steps.Step.{Step}
 use Rattle.enforcement.specs.Batches.{batch_steps}
 use Rattle.enforcement.specs.declared.batches.Entry.{Entry}
 use Rattle.step_text.specs.Lines.{read_step, line_length}
 use Rattle.step_text.specs.Answers.{answer_text}
-use Rattle.step_text.specs.declared.lines.StepRead.{StepRead}
-use Rattle.step_text.specs.declared.lines.StepRead.TheVariants.{Good, Bad}
 use Rattle.step_text.specs.declared.batches.BatchRead.{BatchRead}
+use Rattle.step_text.specs.declared.lines.StepLine.{StepLine}
 
 -- ---- reading
 
@@ -21,9 +20,9 @@ abbrev pub empty_front : Front
 empty_front = record { steps = []; bytes = 0 }
 
 -- a line that was read, and the steps after it
-abbrev pub line_then : StepRead → Front → Front
-line_then (Good line) front = record { steps = line.step ∷ front.steps; bytes = line.length + front.bytes }
-line_then (Bad number) front = empty_front
+abbrev pub line_then : Result StepLine ℕ → Front → Front
+line_then (Ok line) front = record { steps = line.step ∷ front.steps; bytes = line.length + front.bytes }
+line_then (Err number) front = empty_front
 
 -- at most so many steps of a text, as long as its lines are steps
 unfoldable pub front_of : ℕ → List ℕ → Front

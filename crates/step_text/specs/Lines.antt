@@ -1,14 +1,13 @@
 -- Document 01, 'State and steps' and 'Texts': a step's line, and the lines of a text. "10 alone (steps)".
 -- Assumes nothing.
-use Rattle.std.specs.Prelude.{ℕ, zero, suc, cond, List, [], ◌∷◌, length, drop, get_or, eqb, ltb}
+use Rattle.std.specs.Prelude.{ℕ, zero, suc, cond, List, [], ◌∷◌, length, drop, get_or, eqb, ltb, Option, Some, None, Result, Ok, Err}
 use Rattle.forms.specs.Numbers.{signed_value}
 use Rattle.forms.specs.Tables.{bytes, joined, found}
 use Rattle.forms.specs.declared.tables.Found.{Found}
 use Rattle.steps.specs.Steps.{numbered, with_by}
 use Rattle.steps.specs.declared.acting.Acting.TheVariants.{Nobody, InSession}
 use Rattle.steps.specs.declared.steps.Step.{Step}
-use Rattle.step_text.specs.declared.lines.StepRead.{StepRead}
-use Rattle.step_text.specs.declared.lines.StepRead.TheVariants.{Good, Bad}
+use Rattle.step_text.specs.declared.lines.StepLine.{StepLine}
 
 -- the table of steps, in its order; each mark stands for any number, `_` for one that may have a minus
 unfoldable pub form_lines : List (List ℕ)
@@ -85,11 +84,16 @@ step_from form values = cond (ltb form 16) (step_without_by form values) (step_b
 -- ---- a line
 
 -- "line is no form of its text"
-unfoldable pub line_after : Found → StepRead
-line_after f = cond (eqb f.form form_count) (Bad 10) (Good (record { step = step_from f.form f.values; length = f.length }))
+unfoldable pub line_after : Found → Result StepLine ℕ
+line_after f = cond (eqb f.form form_count) (Err 10) (Ok (record { step = step_from f.form f.values; length = f.length }))
 
-unfoldable pub read_step : List ℕ → StepRead
+unfoldable pub read_step : List ℕ → Result StepLine ℕ
 read_step text = line_after (found step_forms text)
+
+-- "10 alone": a line that is not read is refused by 10
+abbrev pub by_number : Option StepLine → Result StepLine ℕ
+by_number (Some line) = Ok line
+by_number None = Err 10
 
 -- ---- the lines of a text
 
@@ -102,13 +106,13 @@ abbrev pub onto : Step → StepsRead → StepsRead
 onto step (steps list) = steps (step ∷ list)
 onto step (bad line) = bad line
 
-abbrev pub line_length : StepRead → ℕ
-line_length (Good line) = line.length
-line_length (Bad number) = 0
+abbrev pub line_length : Result StepLine ℕ → ℕ
+line_length (Ok line) = line.length
+line_length (Err number) = 0
 
-abbrev pub after : ℕ → StepRead → StepsRead → StepsRead
-after n (Good line) rest = onto line.step rest
-after n (Bad number) rest = bad n
+abbrev pub after : ℕ → Result StepLine ℕ → StepsRead → StepsRead
+after n (Ok line) rest = onto line.step rest
+after n (Err number) rest = bad n
 
 -- from line n on; a line has a byte at least, so that as many lines as bytes are enough
 unfoldable pub read_from : ℕ → ℕ → List ℕ → StepsRead
@@ -119,7 +123,7 @@ read_from (suc bound) n (c ∷ text) = after n (read_step (c ∷ text)) (read_fr
 unfoldable pub read_steps : ℕ → List ℕ → StepsRead
 read_steps n text = read_from (length text) n text
 
--- 0 where every line is a step
-abbrev pub bad_line : StepsRead → ℕ
-bad_line (steps list) = 0
-bad_line (bad line) = line
+-- none where every line is a step
+abbrev pub bad_line : StepsRead → Option ℕ
+bad_line (steps list) = None
+bad_line (bad line) = Some line

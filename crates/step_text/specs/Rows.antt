@@ -2,7 +2,7 @@
 -- numbers, and their ranges; and 2026-05, who acts. The table of forms is not used: that reading goes by these rows is proved in
 -- proofs/Rows.antt.
 -- Assumes nothing.
-use Rattle.std.specs.Prelude.{ℕ, zero, suc, ◌≤◌, ◌<◌, true, ◌≡◌, List, [], ◌∷◌, ◌++◌, length, ℤ, pos, negsuc}
+use Rattle.std.specs.Prelude.{ℕ, zero, suc, ◌≤◌, ◌<◌, true, ◌≡◌, List, [], ◌∷◌, ◌++◌, length, ℤ, pos, negsuc, Ok}
 use Prim.Native.String.{String}
 use Rattle.forms.specs.Numbers.{digits_of, integer_text}
 use Rattle.forms.specs.Tables.{bytes}
@@ -14,7 +14,6 @@ use Rattle.steps.specs.Steps.{is_administrative, action_of}
 use Rattle.steps.specs.declared.steps.Step.{Step}
 use Rattle.step_text.specs.Lines.{read_step}
 use Rattle.step_text.specs.declared.lines.StepLine.{StepLine}
-use Rattle.step_text.specs.declared.lines.StepRead.TheVariants.{Good}
 
 -- a row with its numbers, and who acts
 pub record Row : Type 0 where
@@ -169,7 +168,7 @@ RowInRange row = ActionInRange row.action × ActingInRange row.by
 -- are in range; else "step's number, its kind's included, outside its range"
 pub record ReadAs (text : List ℕ) (row : Row) : Type 0 where
   pub line : StepLine
-  pub read : read_step text ≡ Good line
+  pub read : read_step text ≡ Ok line
   pub size : line.length ≡ length (row_text row)
   pub numbers : HasNumbers line.step row
   pub inside : RowInRange row → action_of line.step ≡ row.action

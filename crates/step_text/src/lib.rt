@@ -7,5 +7,5 @@ mod lines;
 mod running;
 
 pub use answers::{put_answer, put_bad};
-pub use lines::{StepLine, StepRead, read_step};
+pub use lines::{StepLine, read_step};
 pub use running::{Answered, first_bad_step, put_answers};

@@ -1,6 +1,6 @@
 // A step's line.
 ghost use Rattle.std.specs.Prelude.{◌≡◌};
-ghost use Rattle.step_text.specs.Lines.{read_step, kind_from, fourth_from, kind_behind_by, step_behind_by};
+ghost use Rattle.step_text.specs.Lines.{by_number, read_step, kind_from, fourth_from, kind_behind_by, step_behind_by, step_from};
 
 use steps::{Acting, Step};
 
@@ -30,8 +30,6 @@ const FORMS: [u8; 330] = *b"\
 (by ? (lend ? ? ? ?))\n\
 (by ? (recall ? ? ?))\n";
 
-const FORM_COUNT: usize = 22;
-
 // The two forms of a move, without and with its error.
 const MOVE: usize = 10;
 
@@ -53,29 +51,25 @@ pub struct StepLine {
     pub length: usize,
 }
 
-#[derive(Clone, Copy)]
-pub enum StepRead {
-    Good(StepLine),
-    Bad(u64),
+// Reads the line at the front of a text; none where no step stands there, which is 10. A number out of range is for the gate to refuse.
+pub fn read_step(text: &[u8]) -> Option<StepLine>
+    ensures { by_number result ≡ read_step text.now }
+{
+    let found = forms::find_likely(&FORMS, &STARTS, likely_form(text), text)?;
+    Some(StepLine {
+        step: step_of(found.form, &found.values),
+        length: found.length,
+    })
 }
 
-// Reads the line at the front of a text: 10 alone. A number out of range is for the gate to refuse.
-pub fn read_step(text: &[u8]) -> StepRead
-    ensures { result ≡ read_step text.now }
+// The step of a form with its values.
+fn step_of(form: usize, values: &[u64; 6]) -> Step
+    ensures { result ≡ step_from form values.now }
 {
-    let found = forms::find_likely(&FORMS, &STARTS, likely_form(text), text);
-    let form = found.form;
-    if form == FORM_COUNT {
-        return StepRead::Bad(10);
-    }
-    let values = found.values;
     if BEHIND_BY <= form {
-        return StepRead::Good(StepLine {
-            step: step_behind_by(form, values),
-            length: found.length,
-        });
+        return step_behind_by(form, values);
     }
-    let step = Step {
+    Step {
         kind: kind_of(form),
         first: values[0],
         second: values[1],
@@ -84,11 +78,7 @@ pub fn read_step(text: &[u8]) -> StepRead
         x: forms::signed_value(values[1]),
         y: forms::signed_value(values[2]),
         by: Acting::Nobody,
-    };
-    StepRead::Good(StepLine {
-        step,
-        length: found.length,
-    })
+    }
 }
 
 // Without `by`, a form's number is its kind's, but for the second form of a move.
@@ -112,8 +102,8 @@ fn fourth_of(form: usize, value: u64) -> u64
 }
 
 // The acting session's number stands before the step's own.
-fn step_behind_by(form: usize, values: [u64; 6]) -> Step
-    ensures { result ≡ step_behind_by form values }
+fn step_behind_by(form: usize, values: &[u64; 6]) -> Step
+    ensures { result ≡ step_behind_by form values.now }
 {
     Step {
         kind: kind_behind_by(form),
@@ -143,18 +133,24 @@ fn kind_behind_by(form: usize) -> u64
 // Which form a step's line likely has, by the third and fourth letters of its word, and a move's by its spaces; after `by` a space stands
 // third. A wrong guess costs time and nothing else.
 fn likely_form(text: &[u8]) -> usize {
-    let fourth = byte_at(text, 4);
-    match byte_at(text, 3) {
-        b' ' => likely_behind_by(text),
-        b'a' => first_or(fourth == b'n', 2, 6),
-        b'c' => first_or(fourth == b'e', 7, 14),
-        b'e' => 4,
-        b'k' => 3,
-        b'n' => first_or(fourth == b'i', 8, 13),
-        b'o' => first_or(fourth == b's', 9, 12),
-        b's' => first_or(fourth == b'i', 0, 11),
-        b't' => first_or(fourth == b'i', 5, 1),
-        _ => first_or(spaces_in_line(text) == 4, MOVE_WITH_ERROR, MOVE),
+    match (byte_at(text, 3), byte_at(text, 4)) {
+        (b' ', _) => likely_behind_by(text),
+        (b'a', b'n') => 2,
+        (b'a', _) => 6,
+        (b'c', b'e') => 7,
+        (b'c', _) => 14,
+        (b'e', _) => 4,
+        (b'k', _) => 3,
+        (b'n', b'i') => 8,
+        (b'n', _) => 13,
+        (b'o', b's') => 9,
+        (b'o', _) => 12,
+        (b's', b'i') => 0,
+        (b's', _) => 11,
+        (b't', b'i') => 5,
+        (b't', _) => 1,
+        _ if spaces_in_line(text) == 4 => MOVE_WITH_ERROR,
+        _ => MOVE,
     }
 }
 
@@ -171,44 +167,24 @@ fn likely_behind_by(text: &[u8]) -> usize {
 
 // The third letter of the word behind `by`, whose session has one to ten digits.
 fn letter_behind_by(text: &[u8]) -> u8 {
-    let mut i: usize = 6;
-    while i < 16 {
+    for i in 6..16 {
         if byte_at(text, i) == b'(' {
             return byte_at(text, i + 3);
         }
-        i += 1;
     }
     0
 }
 
 // The spaces of the first line, as far as a move can reach.
 fn spaces_in_line(text: &[u8]) -> usize {
-    let mut count: usize = 0;
-    let mut i: usize = 0;
-    while i < 40 {
-        let byte = byte_at(text, i);
-        if byte == b'\n' {
-            return count;
-        }
-        if byte == b' ' {
-            count += 1;
-        }
-        i += 1;
-    }
-    count
-}
-
-fn first_or(is_first: bool, first: usize, second: usize) -> usize {
-    if is_first {
-        return first;
-    }
-    second
+    text.iter()
+        .take(40)
+        .take_while(|byte| **byte != b'\n')
+        .filter(|byte| **byte == b' ')
+        .count()
 }
 
 // Past the end of the text, 0.
 fn byte_at(text: &[u8], i: usize) -> u8 {
-    if i < text.len() {
-        return text[i];
-    }
-    0
+    text.get(i).copied().unwrap_or(0)
 }

@@ -1,3 +1,4 @@
 pub mod EndedPairs
 pub mod PairCounts
 pub mod AnswerWords
+pub mod RefusalNumbers

@@ -1,4 +1,4 @@
 pub mod Steps
 pub mod Answers
-pub mod Lowest
 pub mod Pairs
+pub mod Refusals

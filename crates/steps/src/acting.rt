@@ -4,7 +4,8 @@ ghost use Rattle.steps.specs.Steps.{right_kind, is_administrative};
 
 use crate::actions::Action;
 
-#[derive(Clone, Copy)]
+// A word of the subject, so no `Option`.
+#[derive(Clone, Copy, Debug, PartialEq, Eq)]
 pub enum Acting {
     Nobody,
     // by s
@@ -18,57 +19,17 @@ pub fn is_administrative(action: Action) -> bool
     right_kind(action) < 6
 }
 
-// The place of a kind among those six, counted from 0; 6 of any other.
+// The place of a kind among those six, counted from 0; 6 of any other, which is past the last right of a list, so that `get` finds none.
 pub fn right_kind(action: Action) -> usize
     ensures { result ≡ right_kind action }
 {
     match action {
-        Action::Malformed => 6,
-        Action::Assign { user: _, role: _ } => 0,
-        Action::Withdraw { user: _, role: _ } => 1,
-        Action::Grant {
-            role: _,
-            permission: _,
-        } => 2,
-        Action::Take {
-            role: _,
-            permission: _,
-        } => 3,
-        Action::Open {
-            session: _,
-            user: _,
-        } => 6,
-        Action::Activate {
-            session: _,
-            role: _,
-        } => 6,
-        Action::Deactivate {
-            session: _,
-            role: _,
-        } => 6,
-        Action::Access {
-            session: _,
-            permission: _,
-            object: _,
-        } => 6,
-        Action::Finish { object: _ } => 6,
-        Action::Close { session: _ } => 6,
-        Action::Move {
-            session: _,
-            point: _,
-        } => 6,
-        Action::Lost { session: _ } => 6,
-        Action::Clock { time: _ } => 6,
-        Action::Lend {
-            lender: _,
-            borrower: _,
-            role: _,
-            until: _,
-        } => 4,
-        Action::Recall {
-            lender: _,
-            borrower: _,
-            role: _,
-        } => 5,
+        Action::Assign { .. } => 0,
+        Action::Withdraw { .. } => 1,
+        Action::Grant { .. } => 2,
+        Action::Take { .. } => 3,
+        Action::Lend { .. } => 4,
+        Action::Recall { .. } => 5,
+        _ => 6,
     }
 }

@@ -2,7 +2,7 @@
 use places::Point;
 
 // A step whose numbers are in range, or one that 20 refuses.
-#[derive(Clone, Copy)]
+#[derive(Clone, Copy, Debug, PartialEq, Eq)]
 pub enum Action {
     Malformed,
     Assign {

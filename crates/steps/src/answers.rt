@@ -2,7 +2,7 @@
 ghost use Rattle.std.specs.Prelude.{◌≡◌};
 ghost use Rattle.steps.specs.Answers.{answer_of};
 
-#[derive(Clone, Copy)]
+#[derive(Clone, Copy, Debug, PartialEq, Eq)]
 pub enum Answer {
     Granted { selected: usize, ended: usize },
     // 30
@@ -13,19 +13,23 @@ pub enum Answer {
 
 impl Answer {
     // The answer that a number stands for.
+    #[tactic(auto, unfolding(crate::specs::Answers::answer_of))]
     pub fn of_word(word: u64) -> Answer
         ensures { result ≡ answer_of word }
     {
-        let number = (word % 64) as usize;
-        let rule = (word / 64 % 256) as usize;
         let selected = (word / 16384 % 256) as usize;
-        let ended = (word / 4194304 % 4096) as usize;
-        if number == 0 {
-            return Answer::Granted { selected, ended };
+        match word % 64 {
+            0 => Answer::Granted {
+                selected,
+                ended: (word / 4194304 % 4096) as usize,
+            },
+            30 => Answer::Broken {
+                rule: (word / 64 % 256) as usize,
+                selected,
+            },
+            number => Answer::Refused {
+                number: number as usize,
+            },
         }
-        if number == 30 {
-            return Answer::Broken { rule, selected };
-        }
-        Answer::Refused { number }
     }
 }

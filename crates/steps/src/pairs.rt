@@ -2,15 +2,15 @@
 ghost use Rattle.std.specs.Prelude.{◌≡◌};
 ghost use Rattle.steps.specs.Pairs.{ended_pairs, pair_count, Fewer};
 
-use sets::word32;
+use sets::Set;
 
 // The pairs active before and not after.
-pub fn ended(before: [u32; 32], after: [u32; 32]) -> usize
-    ensures { result ≡ pair_count (ended_pairs before after) }
+pub fn ended(before: &[u32; 32], after: &[u32; 32]) -> usize
+    ensures { result ≡ pair_count (ended_pairs before.now after.now) }
 {
     let mut total: usize = 0;
-    for i in 0..32 {
-        total += fewer(before[i], after[i]);
+    for (roles, kept) in before.iter().zip(after) {
+        total += fewer(*roles, *kept);
     }
     total
 }
@@ -19,5 +19,5 @@ pub fn ended(before: [u32; 32], after: [u32; 32]) -> usize
 pub fn fewer(before: u32, after: u32) -> usize
     ensures { Fewer before after result }
 {
-    word32::count(word32::difference(before, after)) as usize
+    before.difference(after).count() as usize
 }

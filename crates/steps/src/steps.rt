@@ -8,7 +8,7 @@ use calendar::Term;
 use places::{Point, on_grid};
 
 // Plain numbers, wide enough for any that a text can hold, and who acts. Numbers that a kind does not use are not looked at.
-#[derive(Clone, Copy)]
+#[derive(Clone, Copy, Debug, PartialEq, Eq)]
 pub struct Step {
     pub kind: u64,
     pub first: u64,
@@ -78,91 +78,92 @@ impl Step {
     pub const RECALL: u64 = 14;
 
     // The step with its numbers in range and `by` only where it can stand, or malformed.
+    #[tactic(auto, unfolding(crate::specs::Steps::action_of))]
     pub fn action(self) -> Action
         ensures { result ≡ action_of self }
     {
-        let by = self.by;
-        acted_by(by, self.of_kind())
+        acted_by(self.by, self.of_kind())
     }
 
     // The same, whoever acts.
+    #[tactic(auto, unfolding(crate::specs::Steps::of_kind))]
     fn of_kind(self) -> Action
         ensures { result ≡ of_kind self }
     {
-        let kind = self.kind;
         let first = self.first as usize;
         let second = self.second as usize;
         let third = self.third as usize;
-        match kind {
-            0 => ranged(
-                (first < Step::USERS) & (second < Step::ROLES),
+        match self.kind {
+            Step::ASSIGN => ranged(
+                first < Step::USERS && second < Step::ROLES,
                 Action::Assign {
                     user: first,
                     role: second,
                 },
             ),
-            1 => ranged(
-                (first < Step::USERS) & (second < Step::ROLES),
+            Step::WITHDRAW => ranged(
+                first < Step::USERS && second < Step::ROLES,
                 Action::Withdraw {
                     user: first,
                     role: second,
                 },
             ),
-            2 => ranged(
-                (first < Step::ROLES) & (second < Step::PERMISSIONS),
+            Step::GRANT => ranged(
+                first < Step::ROLES && second < Step::PERMISSIONS,
                 Action::Grant {
                     role: first,
                     permission: second,
                 },
             ),
-            3 => ranged(
-                (first < Step::ROLES) & (second < Step::PERMISSIONS),
+            Step::TAKE => ranged(
+                first < Step::ROLES && second < Step::PERMISSIONS,
                 Action::Take {
                     role: first,
                     permission: second,
                 },
             ),
-            4 => ranged(
-                (first < Step::SESSIONS) & (second < Step::USERS),
+            Step::OPEN => ranged(
+                first < Step::SESSIONS && second < Step::USERS,
                 Action::Open {
                     session: first,
                     user: second,
                 },
             ),
-            5 => ranged(
-                (first < Step::SESSIONS) & (second < Step::ROLES),
+            Step::ACTIVATE => ranged(
+                first < Step::SESSIONS && second < Step::ROLES,
                 Action::Activate {
                     session: first,
                     role: second,
                 },
             ),
-            6 => ranged(
-                (first < Step::SESSIONS) & (second < Step::ROLES),
+            Step::DEACTIVATE => ranged(
+                first < Step::SESSIONS && second < Step::ROLES,
                 Action::Deactivate {
                     session: first,
                     role: second,
                 },
             ),
-            7 => ranged(
-                (first < Step::SESSIONS) & ((second < Step::PERMISSIONS) & (third < Step::OBJECTS)),
+            Step::ACCESS => ranged(
+                first < Step::SESSIONS && second < Step::PERMISSIONS && third < Step::OBJECTS,
                 Action::Access {
                     session: first,
                     permission: second,
                     object: third,
                 },
             ),
-            8 => ranged(first < Step::OBJECTS, Action::Finish { object: first }),
-            9 => ranged(first < Step::SESSIONS, Action::Close { session: first }),
-            10 => move_to(first, self.x, self.y, self.fourth),
-            11 => ranged(first < Step::SESSIONS, Action::Lost { session: first }),
-            12 => ranged(
+            Step::FINISH => ranged(first < Step::OBJECTS, Action::Finish { object: first }),
+            Step::CLOSE => ranged(first < Step::SESSIONS, Action::Close { session: first }),
+            Step::MOVE => move_to(first, self.x, self.y, self.fourth),
+            Step::LOST => ranged(first < Step::SESSIONS, Action::Lost { session: first }),
+            Step::CLOCK => ranged(
                 self.first <= Term::LAST_TIME,
                 Action::Clock { time: self.first },
             ),
-            13 => ranged(
-                (first < Step::USERS)
-                    & ((second < Step::USERS)
-                        & ((third < Step::ROLES) & (self.fourth <= Term::LAST_TIME))),
+            Step::LEND => ranged(
+                first < Step::USERS
+                    && second < Step::USERS
+                    && third < Step::ROLES
+                    && self.fourth <= Term::LAST_TIME,
                 Action::Lend {
                     lender: first,
                     borrower: second,
@@ -170,8 +171,8 @@ impl Step {
                     until: self.fourth,
                 },
             ),
-            14 => ranged(
-                (first < Step::USERS) & ((second < Step::USERS) & (third < Step::ROLES)),
+            Step::RECALL => ranged(
+                first < Step::USERS && second < Step::USERS && third < Step::ROLES,
                 Action::Recall {
                     lender: first,
                     borrower: second,
@@ -190,7 +191,7 @@ fn acted_by(by: Acting, action: Action) -> Action
     match by {
         Acting::Nobody => action,
         Acting::InSession(session) => ranged(
-            (session < Step::SESSIONS as u64) & is_administrative(action),
+            session < Step::SESSIONS as u64 && is_administrative(action),
             action,
         ),
     }
@@ -209,16 +210,13 @@ fn ranged(in_range: bool, action: Action) -> Action
 fn move_to(session: usize, x: i64, y: i64, error: u64) -> Action
     ensures { result ≡ move_of session x y error }
 {
-    let in_range = (on_grid(x) & on_grid(y)) & (error <= Point::LAST_ERROR as u64);
-    if !((session < Step::SESSIONS) & in_range) {
-        return Action::Malformed;
-    }
-    Action::Move {
-        session,
-        point: Point {
+    if session < Step::SESSIONS && on_grid(x) && on_grid(y) && error <= Point::LAST_ERROR as u64 {
+        let point = Point {
             x: x as i32,
             y: y as i32,
             error: error as u32,
-        },
+        };
+        return Action::Move { session, point };
     }
+    Action::Malformed
 }

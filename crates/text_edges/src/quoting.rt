@@ -3,44 +3,40 @@ ghost use Rattle.std.specs.Prelude.{◌<◌, IfSome, length};
 
 use std::io;
 
-// The word stands at the front.
-pub(crate) fn starts(text: &[u8], word: &[u8]) -> bool {
-    let found = forms::find(word, text);
-    found.length != 0
+// A text put together at the front of a lent space. What is past its end is left out.
+#[derive(Drop)]
+struct Unquoted<'a> {
+    space: &'a mut [u8],
+    length: usize,
 }
 
 // The number where the form stands at the front, and another where it does not.
 pub(crate) fn number_at(text: &[u8], form: &[u8], otherwise: u64) -> u64 {
-    let found = forms::find(form, text);
-    let values = found.values;
-    if found.length == 0 {
-        return otherwise;
-    }
-    values[0]
+    forms::find(form, text).map_or(otherwise, |found| found.values[0])
 }
 
 // The first bytes of a text.
 pub(crate) fn front(text: &[u8], length: usize) -> &[u8] {
-    if text.len() < length {
-        return text;
-    }
-    &text[..length]
+    &text[..length.min(text.len())]
 }
 
-// Puts what stands in quotes, one after the other, at the front of the lent list; its length.
-pub(crate) fn text_of(arguments: &[u8], out: &mut [u8]) -> usize {
-    let mut place: usize = 0;
+// What stands in quotes, one after the other, at the front of the lent space. What is left of the arguments is a slice, since each quote
+// is as long as its text.
+pub(crate) fn text_of<'a>(arguments: &[u8], space: &'a mut [u8]) -> &'a [u8] {
+    let mut text = Unquoted { space, length: 0 };
     let mut rest = arguments;
     while let Some(quote) = next_quote(rest) {
         let quoted = &rest[quote + 1..];
         let Some(end) = next_quote(quoted) else {
-            return place;
+            break;
         };
-        let times = number_at(rest, b" ? \"", 1);
-        place = put_often(&quoted[..end], times, out, place);
+        for turn in 0..number_at(rest, b" ? \"", 1) {
+            text.put_quoted(&quoted[..end], turn + 1);
+        }
         rest = &quoted[end + 1..];
     }
-    place
+    let Unquoted { space, length } = text;
+    front(space, length)
 }
 
 fn next_quote(text: &[u8]) -> Option<usize>
@@ -49,53 +45,41 @@ fn next_quote(text: &[u8]) -> Option<usize>
     text.iter().position(|byte| *byte == b'"')
 }
 
-// A quote as often as the number before it says.
-fn put_often(quoted: &[u8], times: u64, out: &mut [u8], at: usize) -> usize {
-    let mut place = at;
-    for turn in 0..times {
-        place = put_quoted(quoted, turn + 1, out, place);
+impl Unquoted<'_> {
+    // A backslash and the name of a byte stand for the byte.
+    fn put_quoted(&mut self, quoted: &[u8], turn: u64) {
+        let mut is_named = false;
+        for byte in quoted {
+            match (is_named, *byte) {
+                (false, b'\\') => {}
+                (false, byte) => self.put(byte),
+                (true, b'#') => self.put_number(turn),
+                (true, name) => self.put(byte_of(name)),
+            }
+            is_named = !is_named && *byte == b'\\';
+        }
     }
-    place
+
+    fn put(&mut self, byte: u8) {
+        if let Some(place) = self.space.get_mut(self.length) {
+            *place = byte;
+            self.length += 1;
+        }
+    }
+
+    fn put_number(&mut self, number: u64) {
+        self.length = forms::write_line(b"?", &[0, 1], 0, &[number], self.space, self.length);
+    }
 }
 
-fn put_quoted(quoted: &[u8], turn: u64, out: &mut [u8], at: usize) -> usize {
-    let mut place = at;
-    let mut named = false;
-    for i in 0..quoted.len() {
-        let byte = quoted[i];
-        place = put_byte(byte, named, turn, out, place);
-        named = (byte == b'\\') & !named;
-    }
-    place
-}
-
-// A byte by its name, or itself; the backslash before a name is left out.
-fn put_byte(byte: u8, named: bool, turn: u64, out: &mut [u8], at: usize) -> usize {
-    if named & (byte == b'#') {
-        let values = [turn];
-        return forms::write_line(b"?", &[0, 1], 0, &values, out, at);
-    }
-    if !named & (byte == b'\\') {
-        return at;
-    }
-    if at < out.len() {
-        out[at] = byte_of(byte, named);
-        return at + 1;
-    }
-    at
-}
-
-fn byte_of(byte: u8, named: bool) -> u8 {
-    if !named {
-        return byte;
-    }
-    match byte {
-        b'n' => 10,
-        b'r' => 13,
-        b't' => 9,
+fn byte_of(name: u8) -> u8 {
+    match name {
+        b'n' => b'\n',
+        b'r' => b'\r',
+        b't' => b'\t',
         b'0' => 0,
         b'x' => 255,
-        _ => byte,
+        _ => name,
     }
 }
 
@@ -103,14 +87,10 @@ fn byte_of(byte: u8, named: bool) -> u8 {
 pub(crate) fn show(rt: &impl Print, text: &[u8]) -> io::Result<()> {
     print!(rt; "\"")?;
     for byte in text {
-        show_byte(rt, *byte)?;
+        match *byte {
+            b'\n' => print!(rt; "\\n")?,
+            byte => rt.write_all(&[byte])?,
+        }
     }
     print!(rt; "\"")
-}
-
-fn show_byte(rt: &impl Print, byte: u8) -> io::Result<()> {
-    if byte == b'\n' {
-        return print!(rt; "\\n");
-    }
-    rt.write_all(&[byte])
 }

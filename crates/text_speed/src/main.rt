@@ -5,7 +5,7 @@
 
 ghost use Rattle.std.specs.Prelude.{◌≡◌, ◌≤◌, IfOk, length};
 
-use forms::Written;
+use enforcement::State;
 use rules::{Right, RightSlot, Rule, RuleList, Slot};
 use std::io::{self, Cursor, Read};
 
@@ -37,46 +37,28 @@ const SAVED: [u8; 88] = *b"\
 
 fn main(rt: HostRuntime) -> io::Result<()> {
     let mut head = [0u8; 2];
-    let got = fill(&rt, &mut head)?;
-    if got < 2 {
-        answer_sample(&rt)?;
-        return save_sample(&rt);
+    if fill(&rt, &mut head)? < 2 {
+        answer(&rt, &STEPS, &mut [0; 256], 2)?;
+        return save(&rt, &SAVED, &mut [0; 256], 2);
     }
-    let times = wide(head[1]) % 64;
-    if head[0] == b's' {
-        return save_input(&rt, times);
+    let [kind, times] = head;
+    if kind == b's' {
+        return save_input(&rt, times % 64);
     }
-    answer_input(&rt, times)
-}
-
-// Reads until the input has ended or the room is full; how much was read.
-fn fill(rt: &impl Input, room: &mut [u8]) -> io::Result<usize>
-    ensures { IfOk result (λ count. count ≤ length room.new) }
-{
-    let most = room.len();
-    let read = io::copy(&mut rt.reader().take(most as u64), &mut Cursor::new(room))?;
-    Ok((read as usize).min(most))
-}
-
-fn answer_sample(rt: &impl Print) -> io::Result<()> {
-    let mut output = [0u8; 256];
-    let length = answer_often(&STEPS, &mut output, 2);
-    show(rt, &output, length)
-}
-
-fn save_sample(rt: &impl Print) -> io::Result<()> {
-    let mut output = [0u8; 256];
-    let length = save_often(&SAVED, &mut output, 2);
-    show(rt, &output, length)
+    answer_input(&rt, times % 64)
 }
 
 // One byte more than the program takes, so that a longer input is seen. No line is shorter than three fifths of its answer's.
-fn answer_input(rt: &(impl Input + Print), times: u64) -> io::Result<()> {
-    let mut input = [0u8; 65_537];
-    let mut output = [0u8; 131_072];
-    let got = fill(rt, &mut input)?;
-    let length = answer_often(&input[..got], &mut output, times);
-    show(rt, &output, length)
+fn answer_input(rt: &(impl Input + Print), times: u8) -> io::Result<()> {
+    let mut input = [0; 65_537];
+    let length = fill(rt, &mut input)?;
+    answer(rt, &input[..length], &mut [0; 131_072], times)
+}
+
+fn save_input(rt: &(impl Input + Print), times: u8) -> io::Result<()> {
+    let mut input = room();
+    let length = fill(rt, &mut input)?;
+    save(rt, &input[..length], &mut room(), times)
 }
 
 // Room for the text of a state in which everything is set. The contract gives the length, which lending it needs.
@@ -86,40 +68,40 @@ fn room() -> [u8; 1_048_576]
     [0; 1_048_576]
 }
 
-fn save_input(rt: &(impl Input + Print), times: u64) -> io::Result<()> {
-    let mut input = room();
-    let mut output = room();
-    let got = fill(rt, &mut input)?;
-    let length = save_often(&input[..got], &mut output, times);
-    show(rt, &output, length)
+// Reads until the input has ended or the room is full; how much was read. Arrays, and no Vec: no program asks for memory.
+fn fill(rt: &impl Input, room: &mut [u8]) -> io::Result<usize>
+    ensures { IfOk result (λ count. count ≤ length room.new) }
+{
+    let most = room.len();
+    let read = io::copy(&mut rt.reader().take(most as u64), &mut Cursor::new(room))?;
+    Ok((read as usize).min(most))
 }
 
-// The length of the answers; each time they are written over the last.
-fn answer_often(text: &[u8], out: &mut [u8], times: u64) -> usize {
-    let mut length: usize = 0;
-    for _ in 0..times {
-        length = length_of(texts::respond(text, out));
-    }
-    length
+// Each time the answers are written over the last.
+fn answer(rt: &impl Print, text: &[u8], out: &mut [u8], times: u8) -> io::Result<()> {
+    let length = often(times, || texts::respond(text, out).unwrap_or(0));
+    show(rt, out, length)
 }
 
-// The length of the saved text; each time it is written over the last. A text that is refused leaves a fresh state.
-fn save_often(text: &[u8], out: &mut [u8], times: u64) -> usize {
+// Each time the saved text is written over the last. A text that is refused leaves a fresh state.
+fn save(rt: &impl Print, text: &[u8], out: &mut [u8], times: u8) -> io::Result<()> {
     let list = no_rules();
-    let mut length: usize = 0;
-    for _ in 0..times {
-        let loaded = state_text::read_state(list, text);
-        let state = loaded.state;
-        length = length_of(state_text::write_state(state, out));
-    }
-    length
+    let length = often(times, || {
+        let state = state_text::read_state(list, text).unwrap_or_else(|_| State::fresh());
+        state_text::write_state(state, out).unwrap_or(0)
+    });
+    show(rt, out, length)
 }
 
-fn length_of(written: Written) -> usize {
-    match written {
-        Written::Length(length) => length,
-        Written::Refused(_) => 0,
+// What the work gives the last time.
+fn often<F: FnMut() -> usize>(times: u8, mut work: F) -> usize
+    requires { F.IsAlwaysCallable work }
+{
+    let mut length = 0;
+    for _ in 0..times {
+        length = work();
     }
+    length
 }
 
 fn no_rules() -> RuleList {
@@ -134,29 +116,12 @@ fn no_rules() -> RuleList {
     }
 }
 
+// The checksum and the length of the first bytes of a text.
 fn show(rt: &impl Print, text: &[u8], length: usize) -> io::Result<()> {
-    let sum = checksum(text, length);
+    let sum = text.iter().take(length).fold(0, added);
     println!(rt; "{sum} {length}")
 }
 
-// Of the first bytes of a text.
-fn checksum(text: &[u8], length: usize) -> u64 {
-    let mut sum: u64 = 0;
-    let mut i: usize = 0;
-    while i < text.len() {
-        if i == length {
-            return sum;
-        }
-        sum = added(sum, wide(text[i]));
-        i += 1;
-    }
-    sum
-}
-
-fn added(sum: u64, entry: u64) -> u64 {
-    (sum % 1099511627776 * 65599 + entry % 1099511627776) % 1099511627776
-}
-
-fn wide(byte: u8) -> u64 {
-    byte as u64
+fn added(sum: u64, byte: &u8) -> u64 {
+    (sum % 1099511627776 * 65599 + u64::from(*byte)) % 1099511627776
 }

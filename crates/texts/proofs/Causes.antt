@@ -29,7 +29,7 @@ use Rattle.steps.specs.declared.answers.Answer.TheVariants.{Granted, Broken, Ref
 use Rattle.rule_text.specs.Lines.{rule_forms, lines_text, next_line}
 use Rattle.rule_text.specs.Reading.{LinesRead, line_after, read_line, read_lines, list_of}
 use Rattle.rule_text.specs.Causes.{Cause}
-use Rattle.rule_text.specs.declared.reading.LineRead.TheVariants.{Bad}
+use Rattle.std.specs.Prelude.{Err}
 use Rattle.rule_text.proofs.Causes.{no-form-there}
 use Rattle.rule_text.proofs.Lists.{Reads, cause-some, reads_lines, reads-rest, reads_whole, reads-until}
 use Rattle.step_text.specs.Lines.{StepsRead, steps, bad, read_steps}
@@ -77,7 +77,7 @@ starts-not text h = go (starts_steps text) refl
     go false e = e
 
 -- it is no rule
-no-rule : (n : ℕ) (more : List ℕ) → read_line n (bytes "(steps)\n" ++ more) ≡ Bad 10
+no-rule : (n : ℕ) (more : List ℕ) → read_line n (bytes "(steps)\n" ++ more) ≡ Err 10
 unfolding read_line line_after rule_forms found find_in lines_in scan scanned read_item read_by read_byte is_slot kind_of lookup
 no-rule n more = refl
 

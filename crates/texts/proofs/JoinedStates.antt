@@ -10,16 +10,16 @@ use Rattle.sets.proofs.Booleans.{both_true, left-true, right-true, clash}
 use Rattle.rules.specs.Acceptance.{rules_of, list_accepted}
 use Rattle.rules.specs.declared.families.Rule.{Rule}
 use Rattle.rules.specs.declared.lists.RuleList.{RuleList}
-use Rattle.steps.specs.Lowest.{lowest}
-use Rattle.steps.specs.declared.lowest.Lowest.{Lowest}
-use Rattle.steps.specs.declared.lowest.Lowest.TheVariants.{Unbroken, BrokenAt}
+use Rattle.rules.specs.Lowest.{lowest}
+use Rattle.std.specs.Prelude.{Option, Some, None}
 use Rattle.enforcement.specs.States.{rule_holds}
 use Rattle.enforcement.specs.Plain.{obeys, lowest_broken}
 use Rattle.enforcement.specs.declared.states.State.{State}
 use Rattle.enforcement.proofs.Agreement.{lowest-none}
 use Rattle.state_text.specs.Reading.{Loading, loaded, refused, read_lines, unless_broken, under_rules, read_state}
 use Rattle.joining.specs.Joining.{join_of}
-use Rattle.joining.proofs.JoinedLists.{lowest-after, join-made, tested-as-both, broken-past-first, join-accepted}
+use Rattle.rules.proofs.RuleLists.{lowest-after}
+use Rattle.joining.proofs.JoinedLists.{join-made, tested-as-both, broken-past-first, join-accepted}
 
 abbrev is_loaded : Loading → Bool
 is_loaded (loaded s) = true
@@ -30,7 +30,7 @@ not-loaded : {A : Type 0} {number place : ℕ} {s : State} → refused number pl
 not-loaded e = clash refl (ap is_loaded (sym e))
 
 -- where every rule holds none is the lowest broken one
-none-broken : (rules : List Rule) (s : State) → obeys rules s ≡ true → lowest_broken rules s ≡ Unbroken
+none-broken : (rules : List Rule) (s : State) → obeys rules s ≡ true → lowest_broken rules s ≡ None
 unfolding lowest
 none-broken rules s h = ap (λ (l : List Rule). lowest_broken l s) (sym (append-nil rules)) ∙ lowest-after (λ rule. rule_holds rule s) 1 rules [] h
 
@@ -42,12 +42,12 @@ loaded-under list text s = (
   λ h. rw (h.0, h.1, none-broken (rules_of list) s h.2),
 )
   where
-    by-lowest : (x : State) (low : Lowest) → lowest_broken (rules_of list) x ≡ low → read_lines text ≡ loaded x → list_accepted list ≡ true → unless_broken x low ≡ loaded s
+    by-lowest : (x : State) (low : Option ℕ) → lowest_broken (rules_of list) x ≡ low → read_lines text ≡ loaded x → list_accepted list ≡ true → unless_broken x low ≡ loaded s
         → (list_accepted list ≡ true) × (read_lines text ≡ loaded s) × (obeys (rules_of list) s ≡ true)
-    by-lowest x Unbroken e lines accepted h =
+    by-lowest x None e lines accepted h =
         let same : x ≡ s = cc in
         (accepted, lines ∙ h, ap (obeys (rules_of list)) (sym same) ∙ lowest-none (λ rule. rule_holds rule x) 1 (rules_of list) e)
-    by-lowest x (BrokenAt n) e lines accepted h = not-loaded h
+    by-lowest x (Some n) e lines accepted h = not-loaded h
 
     by-list : (b : Bool) → list_accepted list ≡ b → (l : Loading) → read_lines text ≡ l → cond b (under_rules list l) (refused 40 0) ≡ loaded s
         → (list_accepted list ≡ true) × (read_lines text ≡ loaded s) × (obeys (rules_of list) s ≡ true)
@@ -87,8 +87,8 @@ module _ (first second : RuleList) (kinds : length first.rights ≡ 6) (second-k
       parts : (list_accepted first ≡ true) × (read_lines text ≡ loaded s) × (obeys (rules_of first) s ≡ true)
       parts = (loaded-under first text s).0 h
 
-      go : (low : Lowest) → lowest_broken (rules_of joined) s ≡ low
+      go : (low : Option ℕ) → lowest_broken (rules_of joined) s ≡ low
           → (read_state joined text ≡ loaded s) ⊎ ((rule : ℕ) × (length (rules_of first) < rule) × (read_state joined text ≡ refused 17 rule))
-      go Unbroken e = inl (rw (join-accepted first second kinds second-kinds, parts.1, e))
-      go (BrokenAt rule) e =
+      go None e = inl (rw (join-accepted first second kinds second-kinds, parts.1, e))
+      go (Some rule) e =
           inr (rule, broken-past-first first second none s rule parts.2 e, rw (join-accepted first second kinds second-kinds, parts.1, e))

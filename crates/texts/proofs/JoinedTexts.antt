@@ -7,7 +7,8 @@ use mathlib.Core.List.{List, [], ◌∷◌}
 use Prim.Native.Nat.{ℕ, zero, suc, ◌+◌, ◌≤◌, ◌<◌}
 use native.Mathlib.Numerals.{add-one}
 use native.Mathlib.Omega.{arith}
-use lib.ListN.{length}
+use lib.ListN.{length, take}
+use Rattle.std.proofs.lemmas.List.{take_all, length-take}
 use lib.Dec.{eqb}
 use borrow.Author.Tests.{eq-eqb, ne_eqb}
 use Rattle.rules.specs.Acceptance.{right_at, list_accepted}
@@ -18,18 +19,17 @@ use Rattle.rule_text.specs.Lines.{line_count, right_lines}
 use Rattle.rule_text.specs.Reading.{read_lines, no_rights, list_of, read_rules}
 use Rattle.rule_text.specs.Writing.{text_of}
 use Rattle.rule_text.specs.Causes.{GoodLines}
-use Rattle.rule_text.specs.declared.reading.LoadedRules.{LoadedRules}
+use Rattle.rule_text.specs.Reading.{LoadedRules}
 use Rattle.rule_text.proofs.Slots.{list-rights, list-accepted, slots_length, none-good}
 use Rattle.rule_text.proofs.Loaded.{loaded-whole, loaded-bad, zero-or-some}
 use Rattle.rule_text.proofs.Lists.{reads_lines}
 use Rattle.rule_text.proofs.Back.{Accepted}
-use Rattle.joining.specs.Joining.{join_of}
-use Rattle.joining.specs.declared.lists.Joined.{Joined}
+use Rattle.joining.specs.Joining.{Joined, join_of}
 use Rattle.joining.proofs.JoinedLists.{join-accepted}
 use Rattle.texts.specs.SavedRuns.{refused_report, lent_to, list_report}
 use Rattle.texts.specs.JoinedTexts.{lines_before, line_in, with_line, joined_with, join_report}
 use Rattle.texts.specs.declared.saved_runs.Text.TheVariants as Text
-use Rattle.texts.specs.declared.saved_runs.Report.{Report}
+use Rattle.texts.specs.SavedRuns.{Report}
 use Rattle.texts.proofs.SavedRunning.{refused-lent}
 use Rattle.texts.proofs.ListWriting.{some}
 
@@ -55,10 +55,10 @@ counted-turn {rights} {kind} {lines} {i} counted more within {count} e one = rec
   same = (λ j. counted.same j + e j) ∙ sym (ap (lines_before rights) (add-one i) ∙ lines_more rights i within);
 }
 
-pub counted-end : {rights : List RightSlot} {kind lines i : ℕ} → Counted rights kind lines i → kind ≤ i → kind ≤ 6 → (lines ≡ lines_before rights kind) × (lines ≤ 6)
-counted-end {rights} {kind} {lines} {i} counted done most =
-    let all : i ≡ kind = omega (arith, counted.last) in
-    (counted.same ∙ ap (lines_before rights) all, omega (arith, counted.few))
+pub counted-end : (rights : List RightSlot) {kind lines i : ℕ} → Counted (take kind rights) (length (take kind rights)) lines i → length (take kind rights) ≤ i → kind ≤ 6
+    → (lines ≡ lines_before rights kind) × (lines ≤ 6)
+counted-end rights {kind} {lines} {i} counted done most =
+    (counted.same ∙ ap right_lines (take_all i (take kind rights) done), omega (arith, counted.few, counted.last, length-take kind rights))
 
 -- what `line_in` returns
 module _ (rights : List RightSlot) (number place : ℕ) where

@@ -17,20 +17,19 @@ use Rattle.rule_text.specs.Lines.{right_text, rights_text, list_text}
 use Rattle.rule_text.specs.Reading.{read_lines, no_rights, list_of, read_rules}
 use Rattle.rule_text.specs.Writing.{text_of}
 use Rattle.rule_text.specs.Causes.{FirstBad}
-use Rattle.rule_text.specs.declared.reading.LoadedRules.{LoadedRules}
+use Rattle.rule_text.specs.Reading.{LoadedRules}
 use Rattle.rule_text.proofs.Slots.{list-rights, rules-of-list, list-accepted, list-few, none-good}
 use Rattle.rule_text.proofs.Loaded.{zero-or-some, loaded-list}
 use Rattle.rule_text.proofs.Lists.{cause-number}
 use Rattle.rule_text.proofs.Back as rule_text
-use Rattle.joining.specs.Joining.{refused_join, join_of}
+use Rattle.joining.specs.Joining.{Joined, refused_join, join_of}
 use Rattle.joining.specs.Claims.{NoDoubles, JoinRefused}
 use Rattle.joining.specs.Claims as join
-use Rattle.joining.specs.declared.lists.Joined.{Joined}
 use Rattle.joining.proofs.JoinedLists.{join-refused, join-number, join-kinds, join-accepted, Empty, itself, after-empty, before-empty}
 use Rattle.texts.specs.SavedRuns.{rules_in, refused_report, written_report, output_report, list_report}
 use Rattle.texts.specs.JoinedTexts.{lines_before, line_in, with_line, joined_with, join_report, JoinBad, first_bad, second_bad, rights_differ, too_many}
 use Rattle.texts.specs.declared.saved_runs.Text.{Text}
-use Rattle.texts.specs.declared.saved_runs.Report.{Report}
+use Rattle.texts.specs.SavedRuns.{Report}
 use Rattle.texts.proofs.JoinedTexts.{read_whole}
 use Rattle.texts.proofs.Needed.{output-needed}
 use Rattle.texts.proofs.RuleSizes.{rules-most}

@@ -1,5 +1,6 @@
 -- THEOREMS on rule lists from one language to the other: each refusal for its own cause, what 18 needs, and both journeys there and back.
 -- Assumes nothing.
+use Rattle.std.specs.Prelude.{Option, Some, None}
 use mathlib.Core.Path.{◌≡◌, refl, ap, ◌∙◌}
 use mathlib.Core.Bool.{Bool, true, false, cond}
 use mathlib.Core.Logic.{◌↔◌, ⊎_elim}
@@ -11,21 +12,19 @@ use lib.Dec.{eqb, leb}
 use borrow.Author.Tests.{le-leb, eq-eqb, ne_eqb, eqb-true}
 use Rattle.rule_text.specs.Reading.{read_rules}
 use Rattle.rule_text.specs.Writing.{text_of}
-use Rattle.rule_text.specs.declared.reading.LoadedRules.{LoadedRules}
+use Rattle.rule_text.specs.Reading.{LoadedRules}
 use Rattle.rule_text.proofs.Back as own
 use Rattle.state_text.proofs.Rows.{unequal}
 use Rattle.policy_text.specs.Reading.{read_policies}
 use Rattle.policy_text.specs.Writing.{without_policy, policies_text}
 use Rattle.policy_text.specs.Causes.{FirstBad, HasNoLine, Expressible}
-use Rattle.policy_text.specs.declared.writing.WithoutPolicy.{WithoutPolicy}
-use Rattle.policy_text.specs.declared.writing.WithoutPolicy.TheVariants.{Nothing, Lowest}
 use Rattle.policy_text.proofs.Missing.{expressible-means, lacks-means}
 use Rattle.policy_text.proofs.Back.{first_bad}
 use Rattle.policy_text.proofs.Journeys.{policies-survive, rules-survive}
 use Rattle.texts.specs.SavedRuns.{refused_report, written_report, output_report, list_report}
 use Rattle.texts.specs.Policies.{rules_from_report, unless_lacking, policies_from_report}
 use Rattle.texts.specs.declared.saved_runs.Text.{Text}
-use Rattle.texts.specs.declared.saved_runs.Report.{Report}
+use Rattle.texts.specs.SavedRuns.{Report}
 use Rattle.texts.proofs.Needed.{output-needed}
 
 -- ---- our text from policies
@@ -76,9 +75,9 @@ module _ (rules : List ℕ) where
   policies-from-56 room n =
       (by_number (eqb own_read.number 0) refl, λ cause. rw (eq-eqb own_read.number 0 cause.0, (lacks-means own_read.list n).1 cause.1))
     where
-      by-policy : (w : WithoutPolicy) → without_policy own_read.list ≡ w → unless_lacking w (policies_text own_read.list) room ≡ refused_report Text.Rules 56 n → HasNoLine own_read.list n
-      by-policy (Lowest m) e h = let same : m ≡ n = ap (λ (r : Report). r.place) h in (lacks-means own_read.list n).0 (e ∙ ap Lowest same)
-      by-policy Nothing e h = by-room (leb (length (policies_text own_read.list)) room) h
+      by-policy : (w : Option ℕ) → without_policy own_read.list ≡ w → unless_lacking w (policies_text own_read.list) room ≡ refused_report Text.Rules 56 n → HasNoLine own_read.list n
+      by-policy (Some m) e h = let same : m ≡ n = ap (λ (r : Report). r.place) h in (lacks-means own_read.list n).0 (e ∙ ap Some same)
+      by-policy None e h = by-room (leb (length (policies_text own_read.list)) room) h
         where
           by-room : {A : Type 0} (b : Bool) → cond b (written_report (length (policies_text own_read.list)) 0) (refused_report Text.OutputSpace 18 (length (policies_text own_read.list))) ≡ refused_report Text.Rules 56 n → A
           by-room true e = let other : Text.None ≡ Text.Rules = ap (λ (r : Report). r.text) e in unequal cc
@@ -97,12 +96,12 @@ module _ (rules : List ℕ) where
   unfolding policies_from_report
   policies-from-needed room place e = go (eqb own_read.number 0) (without_policy own_read.list) e
     where
-      go : (b : Bool) (w : WithoutPolicy)
+      go : (b : Bool) (w : Option ℕ)
           → cond b (unless_lacking w (policies_text own_read.list) room) (refused_report Text.Rules own_read.number own_read.line) ≡ refused_report Text.OutputSpace 18 place
           → (place ≡ length (policies_text own_read.list)) × (room < place)
           × (cond b (unless_lacking w (policies_text own_read.list) place) (refused_report Text.Rules own_read.number own_read.line) ≡ written_report (length (policies_text own_read.list)) 0)
-      go true Nothing e = output-needed (policies_text own_read.list) room place e
-      go true (Lowest n) e = let other : Text.Rules ≡ Text.OutputSpace = ap (λ (r : Report). r.text) e in unequal cc
+      go true None e = output-needed (policies_text own_read.list) room place e
+      go true (Some n) e = let other : Text.Rules ≡ Text.OutputSpace = ap (λ (r : Report). r.text) e in unequal cc
       go false w e = let other : Text.Rules ≡ Text.OutputSpace = ap (λ (r : Report). r.text) e in unequal cc
 
 -- ---- "A list of these five kinds survives either journey."

@@ -11,24 +11,30 @@ use borrow.Author.Tests.{le-leb, lt-leb, eq-eqb, ne_eqb}
 use Rattle.sets.proofs.Booleans.{clash}
 use Rattle.rules.specs.Acceptance.{list_accepted}
 use Rattle.rule_text.specs.Writing.{text_of, rules_length, written_rules, lent_after_rules}
-use Rattle.rule_text.specs.declared.reading.LoadedRules.{LoadedRules}
+use Rattle.rule_text.specs.Reading.{LoadedRules, loaded_as}
 use Rattle.rule_text.proofs.Loaded.{zero-or-some}
 use Rattle.rule_text.proofs.Room.{refused-40, refused-18, refused-number, refused-leaves, written-length}
-use Rattle.forms.specs.declared.writing.Written.TheVariants.{Length, Refused}
+use Rattle.std.specs.Prelude.{Ok, Err}
 use Rattle.forms.proofs.Room.{lent_written}
 use Rattle.policy_text.specs.Writing.{policies_text, written_policies, lent_after_policies}
-use Rattle.policy_text.specs.declared.writing.PoliciesWritten.{PoliciesWritten}
-use Rattle.policy_text.specs.declared.writing.PoliciesWritten.TheVariants as policies
+use Rattle.policy_text.specs.Writing as policies
 use Rattle.policy_text.proofs.Missing.{expressible-means, lacks-means}
 use Rattle.policy_text.proofs.Room as room
 use Rattle.texts.proofs.SavedRunning.{refused-lent, written-lent}
 use Rattle.texts.specs.SavedRuns.{refused_report, written_report, lent_to, output_report, list_report}
 use Rattle.texts.specs.Policies.{refused_text, policies_from_report}
 use Rattle.texts.specs.declared.saved_runs.Text.{Text}
-use Rattle.texts.specs.declared.saved_runs.Report.{Report}
+use Rattle.texts.specs.SavedRuns.{Report}
 
 pub some : {n : ℕ} → (n ≡ 0 → ⊥) → 0 < n
 some {n} other = ⊎_elim (λ z. absurd (other z)) (λ more. more) (zero-or-some n)
+
+-- a list that is known not to be refused
+pub list-fits : (source : Text) (read : LoadedRules) → read.number ≡ 0 → (lent lent' : List ℕ) (r : Report)
+    → (r ≡ list_report source (loaded_as (Ok read.list)) (length lent)) × (lent' ≡ lent_to r (text_of read.list) lent)
+    → (r ≡ list_report source read (length lent)) × (lent' ≡ lent_to r (text_of read.list) lent)
+unfolding list_report
+list-fits source read none lent lent' r h = (h.0 ∙ sym (rw (eq-eqb read.number 0 none)), h.1)
 
 -- ---- written as our text
 
@@ -47,13 +53,13 @@ module _ (source : Text) (read : LoadedRules) (lent : List ℕ) where
     as-output = rw (eq-eqb read.number 0 z)
 
     -- there is no room, and the text needs so many bytes
-    pub list-short : (number : ℕ) → Refused number ≡ written_rules read.list lent → {needed : ℕ} → needed ≡ rules_length read.list → {r : Report}
+    pub list-short : (number : ℕ) → Err number ≡ written_rules read.list lent → {needed : ℕ} → needed ≡ rules_length read.list → {r : Report}
         → r ≡ refused_report Text.OutputSpace 18 needed → ListWritten r lent'
     unfolding output_report rules_length
     list-short number f {needed} measured {r} q =
         let short : length lent < length (text_of read.list) =
-        ⊎_elim (λ forty. clash accepted ((refused-40 read.list lent).0 (sym f ∙ ap Refused forty)))
-        (λ eighteen. ((refused-18 read.list lent).0 (sym f ∙ ap Refused eighteen)).1)
+        ⊎_elim (λ forty. clash accepted ((refused-40 read.list lent).0 (sym f ∙ ap Err forty)))
+        (λ eighteen. ((refused-18 read.list lent).0 (sym f ∙ ap Err eighteen)).1)
         (refused-number read.list lent number (sym f)) in
         let kept : lent' ≡ lent = left ∙ refused-leaves read.list lent number (sym f) in
         let size : needed ≡ length (text_of read.list) = measured ∙ rw accepted in (
@@ -61,11 +67,11 @@ module _ (source : Text) (read : LoadedRules) (lent : List ℕ) where
           kept ∙ refused-lent r (text_of read.list) lent (rw q (omega arith)),
         )
 
-    lent-rules : (n : ℕ) → written_rules read.list lent ≡ Length n → lent_after_rules read.list lent ≡ text_of read.list ++ drop n lent
+    lent-rules : (n : ℕ) → written_rules read.list lent ≡ Ok n → lent_after_rules read.list lent ≡ text_of read.list ++ drop n lent
     unfolding written_rules lent_after_rules
     lent-rules n h = lent_written (text_of read.list) lent (list_accepted read.list) n h
 
-    pub list_written : (n : ℕ) → Length n ≡ written_rules read.list lent → {r : Report} → r ≡ written_report n 0 → ListWritten r lent'
+    pub list_written : (n : ℕ) → Ok n ≡ written_rules read.list lent → {r : Report} → r ≡ written_report n 0 → ListWritten r lent'
     unfolding output_report
     list_written n f {r} q =
         let fits = (written-length read.list lent n).0 (sym f) in (
@@ -94,7 +100,7 @@ module _ {given read : LoadedRules} (e : read ≡ given) (lent : List ℕ) where
     zero-given : eqb given.number 0 ≡ true
     zero-given = eq-eqb given.number 0 (sym same_number ∙ z)
 
-    answered : {w : PoliciesWritten} → w ≡ written_policies read.list lent → written_policies given.list lent ≡ w
+    answered : {w : policies.PoliciesWritten} → w ≡ written_policies read.list lent → written_policies given.list lent ≡ w
     answered f = sym (f ∙ ap (λ (l : LoadedRules). written_policies l.list lent) e)
 
     same_left : lent' ≡ lent_after_policies given.list lent

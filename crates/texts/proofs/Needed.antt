@@ -15,7 +15,7 @@ use Rattle.enforcement.specs.Runs.{last_state}
 use Rattle.enforcement.specs.declared.states.State.{State}
 use Rattle.rule_text.specs.Reading as rule_text
 use Rattle.rule_text.specs.Writing.{text_of}
-use Rattle.rule_text.specs.declared.reading.LoadedRules.{LoadedRules}
+use Rattle.rule_text.specs.Reading.{LoadedRules}
 use Rattle.rule_text.proofs.Loaded.{loaded-list}
 use Rattle.rule_text.proofs.Back.{write-back}
 use Rattle.state_text.specs.Reading.{Loading, loaded, refused, read_state}
@@ -26,7 +26,7 @@ use Rattle.step_text.specs.Answers.{answers_text}
 use Rattle.texts.specs.SavedRuns.{refused_in, state_under, rules_first, load_texts, rules_in, refused_report, written_report, output_report, list_report, rules_copy_report, saved_report, copy_report, SavedOutcome, saved_outcome, answers_of, state_of, run_report}
 use Rattle.texts.specs.Causes.{RunsSaved, RunRefused, short_answers, short_state}
 use Rattle.texts.specs.declared.saved_runs.Text.{Text}
-use Rattle.texts.specs.declared.saved_runs.Report.{Report}
+use Rattle.texts.specs.SavedRuns.{Report}
 use Rattle.texts.proofs.SavedCauses.{saved-refused, saved-written, saved-runs}
 
 -- ---- a text into a space

@@ -9,8 +9,7 @@ use lib.ListN.{length, drop}
 use lib.Dec.{leb, ltb}
 use borrow.Author.Tests.{lt-ltb, le-leb, lt-leb, leb-false, ltb-true}
 use Rattle.forms.specs.Writing.{written_of}
-use Rattle.forms.specs.declared.writing.Written.{Written}
-use Rattle.forms.specs.declared.writing.Written.TheVariants.{Length, Refused}
+use Rattle.std.specs.Prelude.{Result, Ok, Err}
 use Rattle.rules.specs.Acceptance.{list_accepted}
 use Rattle.rules.specs.declared.lists.RuleList.{RuleList}
 use Rattle.steps.specs.declared.steps.Step.{Step}
@@ -24,20 +23,16 @@ use Rattle.texts.proofs.Responding.{number_small, response-short}
 -- ---- 18
 
 module _ (input lent : List ℕ) where
-  pub refused-18 : (written_of (response_of input) lent ≡ Refused 18) ↔ (length lent < length (response_of input))
+  pub refused-18 : (written_of (response_of input) lent ≡ Err 18) ↔ (length lent < length (response_of input))
   unfolding written_of
   refused-18 = (forth (leb (length (response_of input)) (length lent)) refl, λ h. rw (lt-leb (length (response_of input)) (length lent) h))
     where
-      is_refused : Written → Bool
-      is_refused (Length n) = false
-      is_refused (Refused n) = true
-
-      forth : (b : Bool) → leb (length (response_of input)) (length lent) ≡ b → cond b (Length (length (response_of input))) (Refused 18) ≡ Refused 18 → length lent < length (response_of input)
-      forth true e h = absurd (false≢true (ap is_refused h))
+      forth : (b : Bool) → leb (length (response_of input)) (length lent) ≡ b → cond {A = Result ℕ ℕ} b (Ok (length (response_of input))) (Err 18) ≡ Err 18 → length lent < length (response_of input)
+      forth true e h = cc
       forth false e h = leb-false _ _ e
 
   -- "with 131,072 bytes of room never 18"
-  pub never-18 : 131072 ≤ length lent → written_of (response_of input) lent ≡ Length (length (response_of input))
+  pub never-18 : 131072 ≤ length lent → written_of (response_of input) lent ≡ Ok (length (response_of input))
   unfolding written_of
   never-18 h = rw (le-leb (length (response_of input)) (length lent) (omega (arith, response-short input)))
 

@@ -7,27 +7,36 @@ use Prim.Native.Nat.{ℕ, zero, suc, ◌+◌, ◌-◌, ◌≤◌, ◌<◌}
 use native.Mathlib.Omega.{arith}
 use lib.ListN.{length, take, drop, length-append, length-drop}
 use lib.Dec.{eqb, ltb}
-use borrow.Author.Tests.{lt-ltb, le-ltb, ne_eqb, eqb-true, ltb-false}
+use borrow.Author.Tests.{lt-ltb, le-ltb, eq-eqb, ne_eqb, eqb-true, ltb-false}
+use Rattle.std.specs.Prelude.{Option, Some, None}
 use Rattle.forms.specs.Numbers.{is_digit}
 use Rattle.forms.specs.Kinds.{is_slot, kind_of, lookup}
 use Rattle.forms.specs.Forms.{text_by, item_text, fill}
-use Rattle.forms.specs.Tables.{lines_in, form_at, found, distinct}
-use Rattle.forms.proofs.Finding.{found-hits}
+use Rattle.forms.specs.Tables.{found_form, lines_in, form_at, found, distinct}
+use Rattle.forms.specs.declared.tables.Found.{Found}
+use Rattle.forms.proofs.Finding.{found-hits, answered-some, answered-none}
 use Rattle.forms.proofs.Turns.{rest}
 use Rattle.rules.specs.declared.lists.RuleList.{RuleList}
 use Rattle.enforcement.specs.States.{fresh}
 use Rattle.enforcement.specs.declared.states.State.{State}
 use Rattle.enforcement.proofs.Kept.{fresh-accepted}
 use Rattle.rule_text.specs.Causes.{Cause}
-use Rattle.rule_text.specs.Reading.{LinesRead, read_lines, list_of, prefix_of}
+use Rattle.std.specs.Prelude.{Option, Some, None}
+use Rattle.std.specs.Option.{unwrap_or}
+use Rattle.std.specs.Prelude.{is_some}
+use Rattle.rule_text.specs.Refusals.{refusal_number, number_if}
+use Rattle.rule_text.specs.declared.refusals.Refusal.{Refusal}
+use Rattle.rule_text.specs.declared.refusals.Refusal.TheVariants.{NoForm}
+use Rattle.rule_text.proofs.Loaded.{refusal-number}
+use Rattle.rule_text.specs.Reading.{PrefixRead, LinesRead, read_lines, list_of, prefix_of}
 use Rattle.rule_text.specs.Lines.{lines_text, next_line}
-use Rattle.rule_text.specs.declared.reading.Prefix.{Prefix}
 use Rattle.rule_text.proofs.RightLists.{lines-few}
 use Rattle.rule_text.proofs.Lists.{reads_lines, cause-number}
+use Rattle.state_text.proofs.Rows.{unequal}
 use Rattle.step_text.specs.Lines.{StepsRead, steps, bad, read_steps, bad_line}
 use Rattle.step_text.specs.Answers.{bad_text, answers_text}
 use Rattle.step_text.specs.Running.{text_run}
-use Rattle.step_text.proofs.Runs.{Runs, answers-run, Positive, positive}
+use Rattle.step_text.proofs.Runs.{Runs, answers-run}
 use Rattle.step_text.proofs.Sizes.{Sized, sized, answers-short, bad-short}
 use Rattle.texts.specs.Response.{steps_form, starts_steps, bad_at, steps_outcome, number_without_steps, after_rules, outcome_of, outcome_text, response_of}
 
@@ -58,30 +67,30 @@ starts-room text h =
 
 -- ---- the steps
 
-module _ (list : RuleList) (line : ℕ) (text : List ℕ) (b : ℕ) (e : b ≡ bad_line (read_steps 1 text)) where
-  pub steps-answered : (s : State) → s ≡ fresh → b ≡ 0 → outcome_text (steps_outcome list line (read_steps 1 text)) ≡ answers_text (text_run list s text)
+module _ (list : RuleList) (line : ℕ) (text : List ℕ) (b : Option ℕ) (e : b ≡ bad_line (read_steps 1 text)) where
+  pub steps-answered : (s : State) → s ≡ fresh → b ≡ None → outcome_text (steps_outcome list line (read_steps 1 text)) ≡ answers_text (text_run list s text)
   unfolding steps_outcome outcome_text
   steps-answered s f z =
-      go (read_steps 1 text) (answers-run 1 list fresh text) (positive text) (sym e ∙ z) ∙ ap (λ (x : State). answers_text (text_run list x text)) (sym f)
+      go (read_steps 1 text) (answers-run 1 list fresh text) (sym e ∙ z) ∙ ap (λ (x : State). answers_text (text_run list x text)) (sym f)
     where
-      go : (r : StepsRead) → Runs list fresh (text_run list fresh text) r → Positive r → bad_line r ≡ 0 → outcome_text (steps_outcome list line r) ≡ answers_text (text_run list fresh text)
-      go (steps read) runs p q = ap answers_text (sym runs)
-      go (bad k) runs p q = absurd (omega arith)
+      go : (r : StepsRead) → Runs list fresh (text_run list fresh text) r → bad_line r ≡ None → outcome_text (steps_outcome list line r) ≡ answers_text (text_run list fresh text)
+      go (steps read) runs q = ap answers_text (sym runs)
+      go (bad k) runs q = unequal cc
 
-  pub steps-refused : (b ≡ 0 → ⊥) → outcome_text (steps_outcome list line (read_steps 1 text)) ≡ bad_text 10 (line + b)
+  pub steps-refused : (k : ℕ) → b ≡ Some k → outcome_text (steps_outcome list line (read_steps 1 text)) ≡ bad_text 10 (line + k)
   unfolding steps_outcome outcome_text
-  steps-refused n = go (read_steps 1 text) e
+  steps-refused k n = go (read_steps 1 text) (sym e ∙ n)
     where
-      go : (r : StepsRead) → b ≡ bad_line r → outcome_text (steps_outcome list line r) ≡ bad_text 10 (line + b)
-      go (steps read) q = absurd (n q)
-      go (bad k) q = rw q
+      go : (r : StepsRead) → bad_line r ≡ Some k → outcome_text (steps_outcome list line r) ≡ bad_text 10 (line + k)
+      go (steps read) q = unequal cc
+      go (bad j) q = let same : j ≡ k = cc in rw same
 
-  pub bad-most : b ≤ length text
-  bad-most = go (read_steps 1 text) (sized text) e
+  pub bad-most : (k : ℕ) → b ≡ Some k → k ≤ length text
+  bad-most k n = go (read_steps 1 text) (sized text) (sym e ∙ n)
     where
-      go : (r : StepsRead) → Sized 1 text r → b ≡ bad_line r → b ≤ length text
-      go (steps read) w q = omega arith
-      go (bad k) w q = omega arith
+      go : (r : StepsRead) → Sized 1 text r → bad_line r ≡ Some k → k ≤ length text
+      go (steps read) w q = unequal cc
+      go (bad j) w q = let same : j ≡ k = cc in omega arith
 
 -- ---- the rights and rules before them
 
@@ -96,28 +105,45 @@ lines-within input =
     let r = reads_lines input in
     omega (arith, r.bytes, ap length r.reads, length-append (lines_text (read_lines input).rights (read_lines input).rules) r.rest)
 
-module _ (input : List ℕ) (prefix : Prefix) (e : prefix ≡ prefix_of (read_lines input)) where
+module _ (input : List ℕ) (prefix : PrefixRead) (e : prefix ≡ prefix_of (read_lines input)) where
   pub prefix-list : prefix.list ≡ list_of (read_lines input).rights (read_lines input).rules
   unfolding prefix_of
-  prefix-list = ap (λ (p : Prefix). p.list) e
+  prefix-list = ap (λ (p : PrefixRead). p.list) e
 
   pub prefix-line : prefix.line ≡ next_line (read_lines input).rights (read_lines input).rules
   unfolding prefix_of
-  prefix-line = ap (λ (p : Prefix). p.line) e
+  prefix-line = ap (λ (p : PrefixRead). p.line) e
 
   pub prefix-number : prefix.number ≡ (read_lines input).number
   unfolding prefix_of
-  prefix-number = ap (λ (p : Prefix). p.number) e
+  prefix-number = ap (λ (p : PrefixRead). p.number) e
 
   pub prefix-length : prefix.length ≡ (read_lines input).length
   unfolding prefix_of
-  prefix-length = ap (λ (p : Prefix). p.length) e
+  prefix-length = ap (λ (p : PrefixRead). p.length) e
 
   pub prefix-within : prefix.length ≤ length input
   prefix-within = omega (arith, prefix-length, lines-within input)
 
   pub remaining : take (length input - prefix.length) (drop prefix.length input) ≡ drop (read_lines input).length input
   remaining = rest input prefix.length ∙ ap (λ (n : ℕ). drop n input) prefix-length
+
+-- the line `(steps)` is found or not
+pub line-answered : (text : List ℕ) {answer : Option Found} {b : Bool} → answer ≡ found_form (found steps_form text) → b ≡ is_some answer → b ≡ starts_steps text
+unfolding starts_steps
+line-answered text {answer = Some f} told e =
+    let there = answered-some steps_form text steps-distinct told in
+    let first : (found steps_form text).form ≡ 0 = omega (arith, there.1, steps-one, ap (λ (x : Found). x.form) there.0) in
+    e ∙ sym (eq-eqb _ 0 first)
+line-answered text {answer = None} told e =
+    let past = answered-none steps_form text steps-distinct told in
+    e ∙ sym (ne_eqb _ 0 (λ first. omega (arith, first, past, steps-one)))
+
+-- the number of the line where `(steps)` is missing
+pub told_without_steps : (refusal : Option Refusal) {number : ℕ} → number ≡ refusal_number (unwrap_or refusal NoForm) → number ≡ number_without_steps (number_if refusal)
+unfolding number_without_steps
+told_without_steps None e = e
+told_without_steps (Some refusal) e = e ∙ sym (rw (ne_eqb (refusal_number refusal) 0 (refusal-number refusal)))
 
 -- ---- the whole response
 
@@ -138,7 +164,7 @@ pub with-steps : (lines : LinesRead) (text : List ℕ) → starts_steps text ≡
 unfolding after_rules
 with-steps lines text h = rw h
 
-module _ (input : List ℕ) (h : length input ≤ 65536) (prefix : Prefix) (e : prefix ≡ prefix_of (read_lines input))
+module _ (input : List ℕ) (h : length input ≤ 65536) (prefix : PrefixRead) (e : prefix ≡ prefix_of (read_lines input))
     (l : List ℕ) (p : l ≡ take (length input - prefix.length) (drop prefix.length input)) where
   left : l ≡ drop (read_lines input).length input
   left = p ∙ remaining input prefix e

@@ -14,9 +14,8 @@ use Rattle.rules.specs.Acceptance.{rules_of, list_accepted}
 use Rattle.rules.specs.declared.families.Rule.{Rule}
 use Rattle.rules.specs.declared.rights.RightSlot.{RightSlot}
 use Rattle.rules.specs.declared.lists.RuleList.{RuleList}
-use Rattle.steps.specs.declared.lowest.Lowest.{Lowest}
-use Rattle.steps.specs.declared.lowest.Lowest.TheVariants.{Unbroken, BrokenAt}
-use Rattle.steps.specs.Lowest.{lowest}
+use Rattle.std.specs.Prelude.{Option, Some, None}
+use Rattle.rules.specs.Lowest.{lowest}
 use Rattle.enforcement.specs.States.{fresh, rule_holds}
 use Rattle.enforcement.specs.Plain.{obeys}
 use Rattle.enforcement.specs.Gate.{run_of}
@@ -48,7 +47,7 @@ use Rattle.step_text.proofs.Sizes.{Sized, sized, answers-short}
 use Rattle.texts.specs.SavedRuns.{holding, refused_in, state_under, rules_first, load_texts, refused_report, written_report, SavedOutcome, ran_from, refused_at, steps_under, saved_outcome, answers_of, state_of, fitted, run_report}
 use Rattle.texts.specs.Causes.{RulesThen, StateCause, state_no_form, state_out_of_range, state_out_of_order, state_unrested, state_thirty_third, state_breaks, TextsHold, RunsSaved, RunWritten, RunRefused, long_steps, bad_rules, bad_state, bad_steps, short_answers, short_state}
 use Rattle.texts.specs.declared.saved_runs.Text.{Text}
-use Rattle.texts.specs.declared.saved_runs.Report.{Report}
+use Rattle.texts.specs.SavedRuns.{Report}
 use Rattle.texts.proofs.SavedRunning.{too_long, texts-refused, texts-held}
 
 -- ---- the rules
@@ -87,12 +86,12 @@ module _ (rules saved : List ℕ) where
 
 -- ---- the saved state
 
-lowest-some : (test : Rule → Bool) (m : ℕ) (rules : List Rule) (n : ℕ) → 0 < m → lowest test m rules ≡ BrokenAt n → 0 < n
+lowest-some : (test : Rule → Bool) (m : ℕ) (rules : List Rule) (n : ℕ) → 0 < m → lowest test m rules ≡ Some n → 0 < n
 unfolding lowest
 lowest-some test m [] n h e = unequal cc
 lowest-some test m (rule ∷ rules) n h e = go (test rule) (lowest-some test (suc m) rules n (omega arith)) e
   where
-    go : (b : Bool) → (lowest test (suc m) rules ≡ BrokenAt n → 0 < n) → cond b (lowest test (suc m) rules) (BrokenAt m) ≡ BrokenAt n → 0 < n
+    go : (b : Bool) → (lowest test (suc m) rules ≡ Some n → 0 < n) → cond b (lowest test (suc m) rules) (Some m) ≡ Some n → 0 < n
     go true later e = later e
     go false later e = let same : m ≡ n = cc in omega arith
 
@@ -145,9 +144,9 @@ module _ (rights : List RightSlot) (read : List Rule) (good : rule.GoodLines rig
   unfolding read_state
   state-says number place e = by_lines (read_lines saved) refl (rw listed at e)
     where
-      by-lowest : (s : State) (low : Lowest) → lowest (λ rule. rule_holds rule s) 1 (rules_of list) ≡ low → unless_broken s low ≡ refused number place → StateCause read saved number place
-      by-lowest s Unbroken q h = unequal cc
-      by-lowest s (BrokenAt n) q h =
+      by-lowest : (s : State) (low : Option ℕ) → lowest (λ rule. rule_holds rule s) 1 (rules_of list) ≡ low → unless_broken s low ≡ refused number place → StateCause read saved number place
+      by-lowest s None q h = unequal cc
+      by-lowest s (Some n) q h =
           let p : 17 ≡ number = cc in
           let at : n ≡ place = cc in
           let some = lowest-some (λ rule. rule_holds rule s) 1 (rules_of list) n (omega arith) q in

@@ -7,11 +7,11 @@ use native.Mathlib.Omega.{arith}
 use lib.ListN.{length, take, drop}
 use lib.Dec.{eqb, leb}
 use borrow.Author.Tests.{lt-ltb, le-ltb, le-leb, lt-leb, leb-false, eqb-false, eq-eqb, ne_eqb}
+use Rattle.std.specs.Prelude.{Option, Some, None}
 use Rattle.rules.specs.Acceptance.{rules_of, list_accepted}
 use Rattle.rules.specs.declared.lists.RuleList.{RuleList}
-use Rattle.steps.specs.declared.lowest.Lowest.{Lowest}
-use Rattle.steps.specs.declared.lowest.Lowest.TheVariants.{Unbroken, BrokenAt}
-use Rattle.steps.specs.Lowest.{lowest}
+use Rattle.std.specs.Prelude.{Option, Some, None}
+use Rattle.rules.specs.Lowest.{lowest}
 use Rattle.enforcement.specs.States.{fresh, rule_holds, state_accepted}
 use Rattle.enforcement.specs.Gate.{step_of, run_of}
 use Rattle.enforcement.specs.Runs.{last_state}
@@ -20,10 +20,9 @@ use Rattle.enforcement.specs.declared.states.State.{State}
 use Rattle.steps.specs.declared.steps.Step.{Step}
 use Rattle.enforcement.proofs.Reaching.{Good, step-accepted, step-lending}
 use Rattle.rule_text.specs.Reading as rule_text
-use Rattle.rule_text.specs.declared.reading.LoadedRules.{LoadedRules}
-use Rattle.state_text.specs.Reading.{Loading, loaded, refused, unless_broken, under_rules, read_lines, read_state, loaded_of}
+use Rattle.rule_text.specs.Reading.{LoadedRules}
+use Rattle.state_text.specs.Reading.{Loading, loaded, refused, unless_broken, under_rules, read_lines, read_state}
 use Rattle.state_text.specs.Saving.{saved_text, written_state, lent_state}
-use Rattle.state_text.specs.declared.reading.LoadedState.{LoadedState}
 use Rattle.state_text.proofs.OwnCauses.{lines-number}
 use Rattle.state_text.proofs.RoundTrips as state
 use Rattle.state_text.proofs.Rows.{unequal}
@@ -31,16 +30,16 @@ use Rattle.state_text.proofs.WritingCauses.{written-length, lent_written, lent-r
 use Rattle.step_text.specs.Lines.{StepsRead, steps, bad, read_steps, bad_line}
 use Rattle.step_text.specs.Answers.{answers_text}
 use Rattle.step_text.specs.Running.{text_run}
-use Rattle.step_text.proofs.Runs.{Runs, answers-run, Positive, positive}
+use Rattle.step_text.proofs.Runs.{Runs, answers-run}
 use Rattle.step_text.proofs.Sizes.{Sized, sized, answers-short}
 use Rattle.forms.specs.Writing.{Wrote, written_of}
-use Rattle.forms.specs.declared.writing.Written.TheVariants.{Length, Refused}
+use Rattle.std.specs.Prelude.{Result, Ok, Err}
 use Rattle.forms.proofs.Puts.{measure, at_front}
 use Rattle.texts.proofs.Copying.{kept_whole}
 use Rattle.texts.specs.SavedRuns.{Texts, holding, refused_in, state_under, rules_first, load_texts, loaded_texts, rules_in, refused_report, written_report, lent_to, saved_report, state_in, copy_report, SavedOutcome, ran_from, refused_at, steps_under, steps_after, saved_outcome, answers_of, state_of, fitted, run_report, Ran}
 use Rattle.texts.specs.declared.saved_runs.Text.{Text}
 use Rattle.texts.specs.declared.saved_runs.LoadedTexts.{LoadedTexts}
-use Rattle.texts.specs.declared.saved_runs.Report.{Report}
+use Rattle.texts.specs.SavedRuns.{Report}
 
 -- ---- loading
 
@@ -49,9 +48,9 @@ state-number : (list : RuleList) (text : List ℕ) (number place : ℕ) → read
 unfolding read_state
 state-number list text number place h = by-list (list_accepted list) h
   where
-    by-lowest : (s : State) (low : Lowest) → unless_broken s low ≡ refused number place → 0 < number
-    by-lowest s Unbroken e = unequal cc
-    by-lowest s (BrokenAt n) e = let q : 17 ≡ number = cc in omega arith
+    by-lowest : (s : State) (low : Option ℕ) → unless_broken s low ≡ refused number place → 0 < number
+    by-lowest s None e = unequal cc
+    by-lowest s (Some n) e = let q : 17 ≡ number = cc in omega arith
 
     by_lines : (l : Loading) → read_lines text ≡ l → under_rules list l ≡ refused number place → 0 < number
     by_lines (loaded s) q e = by-lowest s (lowest (λ rule. rule_holds rule s) 1 (rules_of list)) e
@@ -64,28 +63,16 @@ state-number list text number place h = by-list (list_accepted list) h
     by-list false e = let q : 40 ≡ number = cc in omega arith
 
 -- what a state's loading says of the texts
-module _ (list : RuleList) (text : List ℕ) (r : LoadedState) (e : r ≡ loaded_of (read_state list text)) where
-  pub state-refused : (r.number ≡ 0 → ⊥)
-      → ◌≡◌ {A = LoadedTexts} (record { text = Text.State; number = r.number; place = r.place; list = list; state = r.state }) (loaded_texts list (state_under list (read_state list text)))
+module _ (list : RuleList) (text : List ℕ) where
+  pub state-refused : (number place : ℕ) → refused number place ≡ read_state list text
+      → ◌≡◌ {A = LoadedTexts} (record { text = Text.State; number = number; place = place; list = list; state = fresh }) (loaded_texts list (state_under list (read_state list text)))
   unfolding state_under loaded_texts
-  state-refused n = go (read_state list text) e
-    where
-      go : (l : Loading) → r ≡ loaded_of l
-          → ◌≡◌ {A = LoadedTexts} (record { text = Text.State; number = r.number; place = r.place; list = list; state = r.state }) (loaded_texts list (state_under list l))
-      go (loaded s) q = absurd (n (ap (λ (x : LoadedState). x.number) q))
-      go (refused number place) q = rw q
+  state-refused number place e = rw (← e)
 
-  pub state-loaded : r.number ≡ 0
-      → ◌≡◌ {A = LoadedTexts} (record { text = Text.None; number = 0; place = 0; list = list; state = r.state }) (loaded_texts list (state_under list (read_state list text)))
+  pub state-loaded : (s : State) → loaded s ≡ read_state list text
+      → ◌≡◌ {A = LoadedTexts} (record { text = Text.None; number = 0; place = 0; list = list; state = s }) (loaded_texts list (state_under list (read_state list text)))
   unfolding state_under loaded_texts
-  state-loaded z = go (read_state list text) refl e
-    where
-      go : (l : Loading) → read_state list text ≡ l → r ≡ loaded_of l
-          → ◌≡◌ {A = LoadedTexts} (record { text = Text.None; number = 0; place = 0; list = list; state = r.state }) (loaded_texts list (state_under list l))
-      go (loaded s) p q = rw q
-      go (refused number place) p q =
-          let same : number ≡ 0 = sym (ap (λ (x : LoadedState). x.number) q) ∙ z in
-          absurd (omega (arith, state-number list text number place p))
+  state-loaded s e = rw (← e)
 
 -- what the rules' loading says of the texts
 module _ (saved : List ℕ) (r : LoadedRules) where
@@ -196,27 +183,27 @@ module _ (rules saved text : List ℕ) where
     pub texts-held : {list : RuleList} {s : State} → load_texts rules saved ≡ holding list s → saved_outcome rules saved text ≡ steps_under list s (read_steps 1 text)
     texts-held e = short ∙ ap (λ (t : Texts). steps_after t text) e ∙ unfold steps_after in refl
 
-pub steps-refused : (list : RuleList) (s : State) (text : List ℕ) (b : ℕ) → b ≡ bad_line (read_steps 1 text) → (b ≡ 0 → ⊥) → steps_under list s (read_steps 1 text) ≡ refused_at Text.Steps 10 b
+pub steps-refused : (list : RuleList) (s : State) (text : List ℕ) (b : Option ℕ) (k : ℕ) → b ≡ bad_line (read_steps 1 text) → b ≡ Some k → steps_under list s (read_steps 1 text) ≡ refused_at Text.Steps 10 k
 unfolding steps_under
-steps-refused list s text b e n = go (read_steps 1 text) e
+steps-refused list s text b k e n = go (read_steps 1 text) (sym e ∙ n)
   where
-    go : (r : StepsRead) → b ≡ bad_line r → steps_under list s r ≡ refused_at Text.Steps 10 b
-    go (steps read) q = absurd (n q)
-    go (bad k) q = rw q
+    go : (r : StepsRead) → bad_line r ≡ Some k → steps_under list s r ≡ refused_at Text.Steps 10 k
+    go (steps read) q = unequal cc
+    go (bad j) q = let same : j ≡ k = cc in rw same
 
 -- a state that 40 does not refuse is refused by 18 alone
-refused-short : (s : State) (lent : List ℕ) (number : ℕ) → state_accepted s ≡ true → written_state s lent ≡ Refused number → length lent < length (saved_text s)
+refused-short : (s : State) (lent : List ℕ) (number : ℕ) → state_accepted s ≡ true → written_state s lent ≡ Err number → length lent < length (saved_text s)
 unfolding written_state written_of
 refused-short s lent number accepted h = go (leb (length (saved_text s)) (length lent)) refl (rw accepted at h)
   where
-    go : (b : Bool) → leb (length (saved_text s)) (length lent) ≡ b → cond b (Length (length (saved_text s))) (Refused 18) ≡ Refused number → length lent < length (saved_text s)
+    go : (b : Bool) → leb (length (saved_text s)) (length lent) ≡ b → cond {A = Result ℕ ℕ} b (Ok (length (saved_text s))) (Err 18) ≡ Err number → length lent < length (saved_text s)
     go true e q = unequal cc
     go false e q = leb-false (length (saved_text s)) (length lent) e
 
 -- ---- a state's text into a lent space
 
 module _ (s : State) (accepted : state_accepted s ≡ true) (lent : List ℕ) {lent' : List ℕ} (left : lent' ≡ lent_state s lent) {r : Report} where
-  pub saved-refused : (number : ℕ) → Refused number ≡ written_state s lent → {needed : ℕ} → needed ≡ length (saved_text s) → r ≡ refused_report Text.StateSpace 18 needed
+  pub saved-refused : (number : ℕ) → Err number ≡ written_state s lent → {needed : ℕ} → needed ≡ length (saved_text s) → r ≡ refused_report Text.StateSpace 18 needed
       → (r ≡ saved_report (saved_text s) (length lent)) × (lent' ≡ lent_to r (saved_text s) lent)
   unfolding saved_report
   saved-refused number f measured e = (
@@ -224,7 +211,7 @@ module _ (s : State) (accepted : state_accepted s ≡ true) (lent : List ℕ) {l
     left ∙ lent-refused s lent number (sym f) ∙ refused-lent r (saved_text s) lent (rw e (omega arith)),
   )
 
-  pub saved-written : (n : ℕ) → Length n ≡ written_state s lent → r ≡ written_report 0 n → (r ≡ saved_report (saved_text s) (length lent)) × (lent' ≡ lent_to r (saved_text s) lent)
+  pub saved-written : (n : ℕ) → Ok n ≡ written_state s lent → r ≡ written_report 0 n → (r ≡ saved_report (saved_text s) (length lent)) × (lent' ≡ lent_to r (saved_text s) lent)
   unfolding saved_report
   saved-written n f e =
       let fits = (written-length s lent n).0 (sym f) in (
@@ -265,16 +252,16 @@ record Steps (list : RuleList) (s : State) (text : List ℕ) : Type 0 where
   run : text_run list s text ≡ run_of list s read
   few : length (answers_text (run_of list s read)) ≤ 131072
 
-all_steps : (list : RuleList) (s : State) (text : List ℕ) → length text ≤ 65536 → bad_line (read_steps 1 text) ≡ 0 → Accepted s → Steps list s text
+all_steps : (list : RuleList) (s : State) (text : List ℕ) → length text ≤ 65536 → bad_line (read_steps 1 text) ≡ None → Accepted s → Steps list s text
 unfolding steps_under
-all_steps list s text h z accepted = go (read_steps 1 text) refl (answers-run 1 list s text) (positive text) (sized text) z
+all_steps list s text h z accepted = go (read_steps 1 text) refl (answers-run 1 list s text) (sized text) z
   where
-    go : (r : StepsRead) → read_steps 1 text ≡ r → Runs list s (text_run list s text) r → Positive r → Sized 1 text r → bad_line r ≡ 0 → Steps list s text
-    go (steps read) e runs p w q =
+    go : (r : StepsRead) → read_steps 1 text ≡ r → Runs list s (text_run list s text) r → Sized 1 text r → bad_line r ≡ None → Steps list s text
+    go (steps read) e runs w q =
         record { read = read; outcome = ap (steps_under list s) e; run = runs; few = omega (arith, answers-short list s read accepted, w) }
-    go (bad k) e runs p w q = absurd (omega arith)
+    go (bad k) e runs w q = unequal cc
 
-module _ (list : RuleList) (s : State) (text : List ℕ) (h : length text ≤ 65536) (z : bad_line (read_steps 1 text) ≡ 0) (accepted : Accepted s) where
+module _ (list : RuleList) (s : State) (text : List ℕ) (h : length text ≤ 65536) (z : bad_line (read_steps 1 text) ≡ None) (accepted : Accepted s) where
   abbrev all : Steps list s text
   all = all_steps list s text h z accepted
 
@@ -323,7 +310,7 @@ module _ (list : RuleList) (s : State) (text : List ℕ) (h : length text ≤ 65
       room = omega (arith, measure (omega (arith, answers-few)) w)
 
       -- the state has no room
-      pub no-state-room : {next' : List ℕ} (number : ℕ) → Refused number ≡ written_state s' next → next' ≡ lent_state s' next → {needed : ℕ} → needed ≡ length (saved_text s')
+      pub no-state-room : {next' : List ℕ} (number : ℕ) → Err number ≡ written_state s' next → next' ≡ lent_state s' next → {needed : ℕ} → needed ≡ length (saved_text s')
           → {r : Report} → r ≡ refused_report Text.StateSpace 18 needed → Ran outcome answers next r answers next'
       unfolding fitted
       no-state-room {next'} number f n measured {r} e =
@@ -336,7 +323,7 @@ module _ (list : RuleList) (s : State) (text : List ℕ) (h : length text ≤ 65
           (sym kept ∙ refused-lent r (saved_text last) next above)
 
       -- both are written
-      pub both-written : {next' : List ℕ} (n : ℕ) → Length n ≡ written_state s' next → next' ≡ lent_state s' next → {answers' : List ℕ} {place' : ℕ} → Wrote answers 0 answers_there place' answers'
+      pub both-written : {next' : List ℕ} (n : ℕ) → Ok n ≡ written_state s' next → next' ≡ lent_state s' next → {answers' : List ℕ} {place' : ℕ} → Wrote answers 0 answers_there place' answers'
           → {r : Report} → r ≡ written_report place' n → Ran outcome answers next r answers' next'
       unfolding fitted
       both-written {next'} n f lent {answers'} {place'} v {r} e =

@@ -7,13 +7,12 @@ use Rattle.rules.specs.declared.lists.RuleList.{RuleList}
 use Rattle.rule_text.specs.Lines.{right_lines}
 use Rattle.rule_text.specs.Reading.{read_rules}
 use Rattle.rule_text.specs.Causes.{FirstBad}
-use Rattle.rule_text.specs.declared.reading.LoadedRules.{LoadedRules}
-use Rattle.joining.specs.Joining.{join_of}
+use Rattle.rule_text.specs.Reading.{LoadedRules}
+use Rattle.joining.specs.Joining.{Joined, join_of}
 use Rattle.joining.specs.Claims.{JoinRefused}
-use Rattle.joining.specs.declared.lists.Joined.{Joined}
 use Rattle.texts.specs.SavedRuns.{rules_in, refused_report, list_report}
 use Rattle.texts.specs.declared.saved_runs.Text.{Text}
-use Rattle.texts.specs.declared.saved_runs.Report.{Report}
+use Rattle.texts.specs.SavedRuns.{Report}
 
 -- how many lines the rights of the kinds below one have
 abbrev pub lines_before : List RightSlot → ℕ → ℕ

@@ -1,7 +1,7 @@
 -- Steps run over a saved state: document 01, 'State and steps', "from one read from a saved text under the rules in force", and 'Refused'.
 -- One end writes the state, the other reads it and goes on.
 -- Assumes nothing.
-use Rattle.std.specs.Prelude.{ℕ, ◌≡◌, cond, List, [], ◌++◌, length, drop, eqb, ltb, leb}
+use Rattle.std.specs.Prelude.{ℕ, ◌≡◌, ◌<◌, ⊤, cond, List, [], ◌++◌, length, drop, eqb, ltb, leb, Result, Ok, Err}
 use Rattle.rules.specs.declared.lists.RuleList.{RuleList}
 use Rattle.enforcement.specs.States.{fresh}
 use Rattle.enforcement.specs.Gate.{run_of}
@@ -10,14 +10,15 @@ use Rattle.enforcement.specs.declared.states.State.{State}
 use Rattle.steps.specs.declared.steps.Step.{Step}
 use Rattle.rule_text.specs.Reading as rule_text
 use Rattle.rule_text.specs.Writing.{text_of}
-use Rattle.rule_text.specs.declared.reading.LoadedRules.{LoadedRules}
+use Rattle.rule_text.specs.Reading.{LoadedRules}
 use Rattle.state_text.specs.Reading.{Loading, loaded, refused, read_state}
 use Rattle.state_text.specs.Saving.{saved_text}
 use Rattle.step_text.specs.Lines.{StepsRead, steps, bad, read_steps}
 use Rattle.step_text.specs.Answers.{answers_text}
 use Rattle.texts.specs.declared.saved_runs.Text.{Text}
 use Rattle.texts.specs.declared.saved_runs.LoadedTexts.{LoadedTexts}
-use Rattle.texts.specs.declared.saved_runs.Report.{Report}
+use Rattle.texts.specs.declared.saved_runs.Refused.{Refused}
+use Rattle.texts.specs.declared.saved_runs.Written.{Written}
 
 -- ---- the rules, and the state under them
 
@@ -47,11 +48,29 @@ rules_in rules = (rule_text.loaded_of (rule_text.read_lines rules)).list
 
 -- ---- what is reported
 
+-- number 0 with the bytes of output and of state that were written; or the refusal, with its text and place
+pub record Report : Type 0 where
+  pub text : Text
+  pub number : ℕ
+  pub place : ℕ
+  pub output : ℕ
+  pub state : ℕ
+
 abbrev pub refused_report : Text → ℕ → ℕ → Report
 refused_report text number place = record { text = text; number = number; place = place; output = 0; state = 0 }
 
 abbrev pub written_report : ℕ → ℕ → Report
 written_report output state = record { text = Text.None; number = 0; place = 0; output = output; state = state }
+
+-- what a function answers
+abbrev pub report_of : Result Written Refused → Report
+report_of (Ok written) = written_report written.output written.state
+report_of (Err refusal) = refused_report refusal.text refusal.number refusal.place
+
+-- an Err has the number of a refusal, which is not 0: so the report tells whether Ok or Err is answered
+abbrev pub ErrIsRefusal : Result Written Refused → Type 0
+ErrIsRefusal (Ok written) = ⊤
+ErrIsRefusal (Err refusal) = 0 < refusal.number
 
 -- a lent list: the text and the bytes past it, or every byte as it was
 unfoldable pub lent_to : Report → List ℕ → List ℕ → List ℕ

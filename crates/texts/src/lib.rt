@@ -11,6 +11,5 @@ pub use joined_rules::join_rules;
 pub use policies::{policies_from_rules, rules_from_policies};
 pub use responses::{MOST_BYTES, ROOM, respond, response_length};
 pub use saved_runs::{
-    LoadedTexts, Report, Text, copy_rules, copy_state, fresh_state, load, refused_report,
-    run_saved, written_report,
+    LoadedTexts, Refused, Text, Written, copy_rules, copy_state, fresh_state, load, run_saved,
 };

@@ -1,11 +1,14 @@
 // The program's whole work on slices: rules, then `(steps)`, then steps.
 ghost use Rattle.std.specs.Prelude.{◌≡◌, ◌≤◌, leb, length};
 ghost use Rattle.forms.specs.Writing.{Wrote, written_of, lent_after};
+ghost use Rattle.forms.specs.Refusals.{numbered, write_number};
 ghost use Rattle.texts.specs.Response.{starts_steps, steps_outcome, number_without_steps, outcome_text, response_of};
+ghost use Rattle.rule_text.specs.Refusals.{number_if};
 ghost use Rattle.step_text.specs.Lines.{read_steps};
 
 use enforcement::State;
-use forms::Written;
+use forms::WriteRefusal;
+use rule_text::Refusal;
 use rules::RuleList;
 
 // Where the steps begin.
@@ -19,14 +22,13 @@ pub const ROOM: usize = 131_072;
 
 // The answers to the input's steps, a line each, or one line on what is bad in it; the text's length, or 18 where the lent space is
 // shorter. Then every byte stays, else those past the text.
-pub fn respond(input: &[u8], output: &mut [u8]) -> Written
-    ensures { (result ≡ written_of (response_of input.now) output.old) × (output.new ≡ lent_after (response_of input.now) output.old) }
+pub fn respond(input: &[u8], output: &mut [u8]) -> Result<usize, WriteRefusal>
+    ensures { (numbered write_number result ≡ written_of (response_of input.now) output.old) × (output.new ≡ lent_after (response_of input.now) output.old) }
 {
     if !fits(input, output.len()) {
-        return Written::Refused(18);
+        return Err(WriteRefusal::NoRoom);
     }
-    let length = put_response(input, output, 0);
-    Written::Length(length)
+    Ok(put_response(input, output, 0))
 }
 
 // The response has room. It is measured, by writing it where it does not fit, only where it could be too long.
@@ -60,7 +62,7 @@ fn put_response(input: &[u8], out: &mut [u8], at: usize) -> usize
     let rest = &input[start..];
     if !starts_steps(rest) {
         return step_text::put_bad(
-            number_without_steps(prefix.number),
+            number_without_steps(prefix.refusal),
             prefix.line as u64,
             out,
             at,
@@ -75,28 +77,23 @@ fn put_steps(list: RuleList, line: usize, text: &[u8], out: &mut [u8], at: usize
     requires { (line ≤ 135) × (length text.now ≤ 65536) }
     ensures { Wrote out.old at (outcome_text (steps_outcome list line (read_steps 1 text.now))) result out.new }
 {
-    let bad = step_text::first_bad_step(text);
-    if bad == 0 {
-        let answered = step_text::put_answers(list, State::fresh(), text, out, at);
-        return answered.place;
+    if let Some(bad) = step_text::first_bad_step(text) {
+        return step_text::put_bad(10, (line + bad) as u64, out, at);
     }
-    step_text::put_bad(10, (line + bad) as u64, out, at)
+    step_text::put_answers(list, State::fresh(), text, out, at).place
 }
 
 // The text goes on with the line `(steps)`.
 fn starts_steps(text: &[u8]) -> bool
     ensures { result ≡ starts_steps text.now }
 {
-    let found = forms::find(&STEPS, text);
-    found.form == 0
+    forms::find(&STEPS, text).is_some()
 }
 
 // "A missing `(steps)` is 10".
-fn number_without_steps(number: u64) -> u64
-    ensures { result ≡ number_without_steps number }
+#[tactic(auto, using(crate::proofs::Responding::told_without_steps))]
+fn number_without_steps(refusal: Option<Refusal>) -> u64
+    ensures { result ≡ number_without_steps (number_if refusal) }
 {
-    if number == 0 {
-        return 10;
-    }
-    number
+    refusal.unwrap_or(Refusal::NoForm).number()
 }

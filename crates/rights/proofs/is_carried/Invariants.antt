@@ -1,17 +1,8 @@
 use mathlib.Core.Path.{◌≡◌}
-use mathlib.Core.Bool.{Bool, false, ◌&&◌}
-use mathlib.Core.List.{List}
-use Prim.Native.Nat.{ℕ, ◌≤◌, ◌-◌}
-use Rattle.sets.specs.Sets.{member, any}
-use Rattle.rules.specs.Families.{permissions_of}
+use mathlib.Core.Bool.{false}
+use Rattle.sets.specs.Sets.{any}
+use Rattle.rights.proofs.Carrying.{carried_by}
 use Rattle.rights.proofs.is_carried.Given as goal
 
--- role r is one of the set and carries the permission
-abbrev pub carried_by : List ℕ → ℕ → ℕ → ℕ → Bool
-carried_by granted roles permission r = member roles r && member (permissions_of granted r) permission
-
-abbrev pub invariant-roles : goal.invariant-roles
-invariant-roles l = (l.role ≤ 32) × (any l.role (carried_by l.granted l.roles l.permission) ≡ false)
-
-abbrev pub decreases-roles : goal.decreases-roles
-decreases-roles l = 32 - l.role
+abbrev pub invariant-loop-role : goal.invariant-loop-role
+invariant-loop-role l = any l.role (carried_by l.granted l.roles l.permission) ≡ false

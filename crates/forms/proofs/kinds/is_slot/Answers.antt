@@ -7,7 +7,7 @@ pub returns-then-mark-ge97 : goal.returns-then-mark-ge97
 returns-then-mark-ge97 c = mark-high _ (omega arith) c.if-mark-ge97.true
 
 pub returns-then-mark-lt64 : goal.returns-then-mark-lt64
-returns-then-mark-lt64 c = c.member.ensures ∙ mark-low _ (omega arith) c.if-mark-lt64.true
+returns-then-mark-lt64 c = c.contains.ensures.member ∙ mark-low _ (omega arith) c.if-mark-lt64.true
 
 pub returns : goal.returns
-returns c = c.member-2.ensures ∙ mark-between _ (omega arith) (omega arith) (omega arith)
+returns c = c.contains-2.ensures.member ∙ mark-between _ (omega arith) (omega arith) (omega arith)

@@ -1,9 +1,9 @@
-use mathlib.Core.Path.{sym, ◌∙◌}
-use Rattle.forms.proofs.Turns.{positive-some, positive-none}
+use mathlib.Core.Path.{◌∙◌}
+use Rattle.forms.proofs.Turns.{positive-none, positive-some}
 use Rattle.forms.proofs.numbers.read_positive.Goals as goal
 
-pub returns-then-number-gt0 : goal.returns-then-number-gt0
-returns-then-number-gt0 c = positive-some _ c.read_number-number.ensures c.if-number-gt0.true
+pub returns-in_err-number : goal.returns-in_err-number
+returns-in_err-number c = c.from_residual.ensures ∙ positive-none _ c.in_err-number.ensures
 
 pub returns : goal.returns
-returns c = c.nothing.ensures ∙ sym (positive-none _ c.read_number-number.ensures c.if-number-gt0.false)
+returns c = c.then_some.ensures ∙ positive-some _ c.in_ok-number.ensures

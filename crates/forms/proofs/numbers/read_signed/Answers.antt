@@ -1,47 +1,40 @@
-use mathlib.Core.Path.{◌≡◌, sym, ap, ◌∙◌}
-use mathlib.Core.List.{List}
-use Prim.Native.Nat.{ℕ, ◌-◌, ◌≤◌, ◌<◌}
-use lib.ListN.{length, take, drop, length-drop}
+use mathlib.Core.Path.{◌≡◌, refl, sym, ap, ◌∙◌}
+use mathlib.Core.List.{List, [], ◌∷◌}
+use Prim.Native.Nat.{ℕ, ◌<◌}
 use native.Mathlib.Omega.{arith}
-use Rattle.forms.specs.Numbers.{read_number, negated}
-use Rattle.forms.specs.declared.numbers.Number.{Number}
-use Rattle.forms.proofs.Reading.{number_small, number_short, signed-plain}
-use Rattle.forms.proofs.Turns.{rest, signed-none, signed-minus, negated-some, negated-none}
+use lib.ListN.{length, drop}
+use borrow.Author.Tests.{ltb-true}
+use Rattle.forms.specs.Numbers.{read_number, read_signed, found_number}
+use Rattle.forms.proofs.Reading.{signed-plain}
+use Rattle.forms.proofs.Turns.{rest, tail-length, signed-minus, negated-some, negated-none, amount-fits}
 use Rattle.forms.proofs.numbers.read_signed.Goals as goal
+use Rattle.forms.proofs.numbers.read_signed.Goals.{in_default-via-then-text-lt1, in_default-via-else-text-lt1+in_default-1}
 
--- the number after the minus
-after : {r : Number} (s : List ℕ) → r ≡ read_number (take (length s - 1) (drop 1 s)) → r ≡ read_number (drop 1 s)
-after s e = e ∙ ap read_number (rest s 1)
+signed-empty : (s : List ℕ) → length s < 1 → read_signed s ≡ read_number s
+unfolding read_signed read_number
+signed-empty [] h = refl
+signed-empty (c ∷ s) h = absurd (omega arith)
 
-small : {r : Number} (s : List ℕ) → r ≡ read_number s → r.value < 10000000000
-small s e = rw e (number_small s)
+pub returns-in_default : goal.returns-in_default
+returns-in_default c =
+    c.read_number.ensures
+    ∙ ap found_number (sym (elim c.in_default.branch [
+      | in_default-via-then-text-lt1 w ↦ signed-empty c.args.text.now (omega (arith, ltb-true))
+      | in_default-via-else-text-lt1+in_default-1 w ↦ signed-plain c.args.text.now (λ e. omega arith)
+    ]))
 
-short : {r : Number} (s : List ℕ) → r ≡ read_number (drop 1 s) → r.length ≤ length s
-short s e = rw e (omega (arith, number_short (drop 1 s), length-drop 1 s))
-
-pub returns-then-text-eq0 : goal.returns-then-text-eq0
-returns-then-text-eq0 c = c.nothing.ensures ∙ sym (signed-none _ c.if-text-eq0.true)
+pub returns-in_err-amount : goal.returns-in_err-amount
+returns-in_err-amount c =
+    let text = c.args.text.now in
+    c.from_residual.ensures ∙ rw (signed-minus text (omega arith) (omega arith)) (negated-none (drop 1 text) (rw (rest text 1) at c.in_err-amount.ensures))
 
 pub overflow_add-result : goal.overflow_add-result
-overflow_add-result c = omega (arith, small _ c.read_number-amount.ensures)
+overflow_add-result c = omega (arith, amount-fits _ c.in_ok-amount.ensures)
 
-pub overflow_add-result-then-amount-gt0 : goal.overflow_add-result-then-amount-gt0
-overflow_add-result-then-amount-gt0 c =
-    let text = c.args.text.now in
-    omega (arith, short text (after text c.read_number-amount.ensures))
-
-pub returns-then-amount-gt0 : goal.returns-then-amount-gt0
-returns-then-amount-gt0 c =
-    let text = c.args.text.now in
-    let number = after text c.read_number-amount.ensures in
-    sym (signed-minus text (omega arith) c.if-text-eq45.true ∙ ap negated (sym number) ∙ negated-some _ c.if-amount-gt0.true)
-
-pub returns-then-text-eq45 : goal.returns-then-text-eq45
-returns-then-text-eq45 c =
-    let text = c.args.text.now in
-    let number = after text c.read_number-amount.ensures in
-    c.nothing-then-text-eq45.ensures
-    ∙ sym (signed-minus text (omega arith) c.if-text-eq45.true ∙ ap negated (sym number) ∙ negated-none _ c.if-amount-gt0.false)
+pub overflow_add-result-2 : goal.overflow_add-result-2
+overflow_add-result-2 c = omega (arith, amount-fits _ c.in_ok-amount.ensures, tail-length c.args.text.now)
 
 pub returns : goal.returns
-returns c = c.read_number.ensures ∙ sym (signed-plain _ c.if-text-eq45.false)
+returns c =
+    let text = c.args.text.now in
+    rw (signed-minus text (omega arith) (omega arith)) (negated-some (drop 1 text) (rw (rest text 1) at c.in_ok-amount.ensures))

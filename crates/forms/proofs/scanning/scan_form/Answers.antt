@@ -1,60 +1,45 @@
-use mathlib.Core.Path.{sym, ◌∙◌}
+use mathlib.Core.Path.{sym, ap, ◌∙◌}
 use native.Mathlib.Omega.{arith}
-use borrow.Author.Tests.{not-true, not-false}
-use Rattle.forms.proofs.Turns.{scan-start, scan-fits, scan-missed, byte-missed, byte_fits, byte-turn, slot_turn, scan-end}
+use Rattle.forms.specs.Forms.{scanned_told}
+use Rattle.forms.proofs.Turns.{scan-start, number-missing, number-fits, number-turn, byte-missed, byte_fits, byte-turn, scan-end}
 use Rattle.forms.proofs.scanning.scan_form.Goals as goal
 
-pub loop-i-init : goal.loop-i-init
-loop-i-init c = scan-start _ _
+pub loop-mark-init : goal.loop-mark-init
+loop-mark-init c = rw c.nothing-scanned.ensures (scan-start _ _)
+
+pub slice_bounds-rest-count : goal.slice_bounds-rest-count
+slice_bounds-rest-count c = omega (arith, c.loop-mark.invariant.in_text)
+
+pub slice_bounds-rest-start : goal.slice_bounds-rest-start
+slice_bounds-rest-start c = omega (arith, c.loop-mark.invariant.in_text)
+
+pub returns-in_err-number : goal.returns-in_err-number
+returns-in_err-number c =
+    ap scanned_told c.from_residual.ensures
+    ∙ number-missing _ _ _ _ _ _ c.loop-mark.invariant c.loop-mark-test.true (sym c.is_slot.ensures ∙ c.if-is_slot.true) c.in_err-number.ensures
+
+pub add-requires : goal.add-requires
+add-requires c =
+    let fits = number-fits _ _ _ _ _ _ c.loop-mark.invariant c.loop-mark-test.true (sym c.is_slot.ensures ∙ c.if-is_slot.true) _ c.in_ok-number.ensures in
+    (omega (arith, c.loop-mark.invariant.few), omega (arith, fits))
+
+pub loop-mark-preserved-then-is_slot : goal.loop-mark-preserved-then-is_slot
+loop-mark-preserved-then-is_slot c =
+    rw c.add.ensures
+    (number-turn _ _ _ _ _ _ c.loop-mark.invariant c.loop-mark-test.true (sym c.is_slot.ensures ∙ c.if-is_slot.true) _ c.in_ok-number.ensures)
 
 pub returns-then-not-stands : goal.returns-then-not-stands
 returns-then-not-stands c =
-    let plain = sym c.is_slot.ensures ∙ not-true _ c.if-not-is_slot.true-raw in
-    c.unmatched.ensures ∙ byte-missed _ _ _ _ _ _ c.loop-i.invariant (omega arith) plain c.stands.result c.stands.ensures (not-true _ c.if-not-stands.true-raw)
+    byte-missed _ _ _ _ _ _ c.loop-mark.invariant c.loop-mark-test.true (sym c.is_slot.ensures ∙ c.if-is_slot.false) c.stands.result c.stands.ensures c.if-not-stands.true
 
-pub overflow_add-length : goal.overflow_add-length
-overflow_add-length c =
-    let plain = sym c.is_slot.ensures ∙ not-true _ c.if-not-is_slot.true-raw in
-    omega (arith, byte_fits _ _ _ _ _ _ c.loop-i.invariant (omega arith) plain c.stands.result c.stands.ensures (not-false _ c.if-not-stands.false-raw))
+pub overflow_add-scanned : goal.overflow_add-scanned
+overflow_add-scanned c =
+    let fits = byte_fits _ _ _ _ _ _ c.loop-mark.invariant c.loop-mark-test.true (sym c.is_slot.ensures ∙ c.if-is_slot.false) c.stands.result c.stands.ensures c.if-not-stands.false in
+    omega (arith, fits)
 
-pub loop-i-preserved-then-not-is_slot : goal.loop-i-preserved-then-not-is_slot
-loop-i-preserved-then-not-is_slot c =
-    let plain = sym c.is_slot.ensures ∙ not-true _ c.if-not-is_slot.true-raw in
-    byte-turn _ _ _ _ _ _ c.loop-i.invariant (omega arith) plain c.stands.result c.stands.ensures (not-false _ c.if-not-stands.false-raw)
-
-pub slice_bounds-read_item-count : goal.slice_bounds-read_item-count
-slice_bounds-read_item-count c = omega (arith, c.loop-i.invariant.in_text)
-
-pub slice_bounds-read_item-start : goal.slice_bounds-read_item-start
-slice_bounds-read_item-start c = omega (arith, c.loop-i.invariant.in_text)
-
-pub slice_bounds-read_item-end : goal.slice_bounds-read_item-end
-slice_bounds-read_item-end c = omega (arith, c.loop-i.invariant.in_text)
-
-pub read_item-item-requires : goal.read_item-item-requires
-read_item-item-requires c = sym c.is_slot.ensures ∙ not-false _ c.if-not-is_slot.false-raw
-
-pub returns-then-item-eq0 : goal.returns-then-item-eq0
-returns-then-item-eq0 c =
-    let item = c.read_item-item in
-    c.unmatched-then-item-eq0.ensures ∙ scan-missed _ _ _ _ c.loop-i.invariant (omega arith) item.result item.ensures c.if-item-eq0.true
-
-pub store-requires : goal.store-requires
-store-requires c = c.loop-i.invariant.six
-
-pub overflow_add-count : goal.overflow_add-count
-overflow_add-count c = omega (arith, c.loop-i.invariant.few)
-
-pub overflow_add-length-in-loop-i : goal.overflow_add-length-in-loop-i
-overflow_add-length-in-loop-i c =
-    let item = c.read_item-item in
-    omega (arith, scan-fits _ _ _ _ c.loop-i.invariant (omega arith) item.result item.ensures)
-
-pub loop-i-preserved : goal.loop-i-preserved
-loop-i-preserved c =
-    let item = c.read_item-item in
-    let slot = sym c.is_slot.ensures ∙ not-false _ c.if-not-is_slot.false-raw in
-    slot_turn _ _ _ _ _ _ c.loop-i.invariant (omega arith) item.result item.ensures c.if-item-eq0.false slot c.store.ensures
+pub loop-mark-preserved : goal.loop-mark-preserved
+loop-mark-preserved c =
+    byte-turn _ _ _ _ _ _ c.loop-mark.invariant c.loop-mark-test.true (sym c.is_slot.ensures ∙ c.if-is_slot.false) c.stands.result c.stands.ensures c.if-not-stands.false
 
 pub returns : goal.returns
-returns c = scan-end _ _ _ _ c.loop-i.invariant (omega arith)
+returns c = scan-end _ _ _ _ c.loop-mark.invariant c.loop-mark-test.false

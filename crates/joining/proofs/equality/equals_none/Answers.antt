@@ -1,32 +1,16 @@
-use mathlib.Core.Path.{◌≡◌, refl, sym, ap, ◌∙◌}
-use mathlib.Core.Bool.{not}
-use native.Mathlib.Omega.{arith}
-use lib.ListN.{length}
-use Rattle.rules.specs.Acceptance.{every}
-use Rattle.rules.proofs.Every.{every-next, every-stop}
-use Rattle.joining.specs.Joining.{equals_none}
-use borrow.Author.Rules.{rules}
+use Rattle.std.proofs.Common.{rules, tests, List, map, ap, not, ◌∙◌}
+use Rattle.std.proofs.lemmas.Iterator.{YieldsList-from_slice}
+use Rattle.std.proofs.lemmas.Iterator.Search.{all_from_yields_List}
+use Rattle.rules.specs.Acceptance.{rule_of}
+use Rattle.rules.specs.declared.families.Rule.{Rule}
+use Rattle.rules.specs.declared.lists.Slot.{Slot}
+use Rattle.joining.specs.Joining.{equal_rules, equals_none}
+use Rattle.joining.proofs.Rules.{every-slots}
 use Rattle.joining.proofs.equality.equals_none.Goals as goal
-use Rattle.joining.proofs.equality.equals_none.Goals.{Start}
 
--- The type fixes the number of slots.
-slots_length : (c : Start) → length c.args.list.slots ≡ 128
-slots_length c = c.well_formed.1.0.1.1.0.1.0.1
-
-pub rules-init : goal.rules-init
-unfolding every
-rules-init c = (omega arith, refl)
-
-pub bounds-list-i : goal.bounds-list-i
-bounds-list-i c = omega (arith, c.rules.invariant.0, slots_length c.before.before, c.requires)
-
-pub rules-preserved : goal.rules-preserved
-rules-preserved c = (search rules, every-next _ _ c.rules.i _ (omega (arith, slots_length c.before.before.before.before.before, c.requires)) c.rules.invariant.1 (ap not (sym c.equal_rules.ensures ∙ c.if-equal_rules.false)))
-
-pub returns-then-i-length : goal.returns-then-i-length
+pub returns : goal.returns
 unfolding equals_none
-returns-then-i-length c = rw (← c.if-i-length.true) (sym c.rules.invariant.1)
-
-pub returns-then-equal_rules : goal.returns-then-equal_rules
-unfolding equals_none
-returns-then-equal_rules c = sym (every-stop _ c.args.list.slots c.args.list.length c.rules.i _ (omega (arith, c.rules.invariant.0)) (omega (arith, slots_length c.before.before.before.before.before, c.requires)) (ap not (sym c.equal_rules.ensures ∙ c.if-equal_rules.true)))
+returns c =
+    all_from_yields_List (λ (slot : Slot). not (equal_rules slot.rule c.args.rule)) c.all.new.self _ _ c.all.ensures.ran (YieldsList-from_slice c.used.result.now cc) (λ x b q k. search (rules, tests))
+    ∙ every-slots (λ (other : Rule). not (equal_rules other c.args.rule)) c.used.result.now
+    ∙ ap (λ (slots : List Slot). equals_none c.args.rule (map rule_of slots)) c.used.ensures

@@ -1,26 +1,26 @@
-use mathlib.Core.Path.{◌≡◌}
-use native.Mathlib.Omega.{arith}
-use lib.ListN.{length}
-use Rattle.rule_text.proofs.Slots.{accepted-most}
-use Rattle.joining.proofs.Loops.{copied-start, copied-turn, copied-slots, copied-end, made-rights}
+use Rattle.std.proofs.Common.{List, ◌++◌, map, length, drop, ap, ◌∙◌, arith, length-take}
+use Rattle.rules.specs.Acceptance.{rule_of}
+use Rattle.rules.specs.declared.lists.Slot.{Slot}
+use Rattle.rule_text.specs.Reading.{list_of}
+use Rattle.joining.specs.Joining.{joined_rights}
+use Rattle.joining.proofs.Loops.{empty-slots, list_with, used-few}
 use Rattle.joining.proofs.lists.with_both_rights.Goals as goal
-use Rattle.joining.proofs.lists.with_both_rights.Goals.{Start}
 
--- The type fixes the number of slots.
-slots_length : (c : Start) → length c.args.first.slots ≡ 128
-slots_length c = c.well_formed.0.1.1.0.1.0.1
+pub slice_bounds-slots-end : goal.slice_bounds-slots-end
+slice_bounds-slots-end c = omega (arith, used-few _ c.used-rules.ensures c.requires)
 
-pub loop-i-init : goal.loop-i-init
-loop-i-init c = copied-start _ (slots_length c.before.before.before) (accepted-most _ c.requires) c.rights_of_both-list.ensures
+pub slice_bounds-copy_from_slice-end : goal.slice_bounds-copy_from_slice-end
+slice_bounds-copy_from_slice-end c = omega (arith, length-take {A = Slot}, used-few _ c.used-rules.ensures c.requires)
 
-pub bounds-first-i : goal.bounds-first-i
-bounds-first-i c = omega (arith, c.loop-i.invariant.slots, c.loop-i.invariant.few)
-
-pub bounds-list-i : goal.bounds-list-i
-bounds-list-i c = omega (arith, c.loop-i.invariant.few, copied-slots c.loop-i.invariant)
-
-pub loop-i-preserved : goal.loop-i-preserved
-loop-i-preserved c = copied-turn c.loop-i.invariant (omega arith) _
+pub copy_from_slice-requires : goal.copy_from_slice-requires
+copy_from_slice-requires c = omega (arith, length-take {A = Slot}, used-few _ c.used-rules.ensures c.requires)
 
 pub returns : goal.returns
-returns c = copied-end c.loop-i.invariant (omega arith) (made-rights _ _ c.rights_of_both-list.ensures)
+returns c =
+    (λ j. record {
+      slots = c.copy_from_slice.ensures.after j ++ drop (length c.used-rules.result.now) (empty-slots c.no_rules.ensures j);
+      length = length c.used-rules.result.now;
+      rights = c.rights_of_both.ensures j;
+    })
+    ∙ list_with (joined_rights c.args.first.now.rights c.args.second.now.rights) c.used-rules.result.now (used-few _ c.used-rules.ensures c.requires)
+    ∙ ap (λ (slots : List Slot). list_of (joined_rights c.args.first.now.rights c.args.second.now.rights) (map rule_of slots)) c.used-rules.ensures

@@ -1,20 +1,9 @@
-use mathlib.Core.Path.{refl, sym, ◌∙◌}
-use native.Mathlib.Omega.{arith}
-use borrow.Author.Tests.{not-true, not-false}
-use Rattle.rules.specs.Breach.{first_broken}
-use Rattle.rules.proofs.Breach.{first_more, first_found}
-use borrow.Author.Rules.{rules}
+use Rattle.std.proofs.Common.{rules, tests}
+use Rattle.std.proofs.lemmas.Iterator.{YieldsList-from_slice, YieldsList-from_zip, IsFirst-from_position}
+use Rattle.joining.proofs.Rights.{Agree, Apart, first_apart}
 use Rattle.joining.proofs.right_lines.test_rights.Goals as goal
 
-pub kinds-init : goal.kinds-init
-unfolding first_broken
-kinds-init c = (omega arith, refl)
-
-pub kinds-preserved : goal.kinds-preserved
-kinds-preserved c = (search rules, first_more _ _ c.kinds.invariant.1 (sym c.rights_agree.ensures ∙ not-false _ c.if-not-rights_agree.false-raw))
-
-pub returns-then-kind-eq-RIGHTS : goal.returns-then-kind-eq-RIGHTS
-returns-then-kind-eq-RIGHTS c = rw (← c.if-kind-eq-RIGHTS.true) (sym c.kinds.invariant.1)
-
-pub returns-then-not-rights_agree : goal.returns-then-not-rights_agree
-returns-then-not-rights_agree c = sym (first_found 6 c.kinds.kind _ (search rules) c.kinds.invariant.1 (sym c.rights_agree.ensures ∙ not-true _ c.if-not-rights_agree.true-raw))
+pub returns : goal.returns
+returns c =
+    let found = IsFirst-from_position c.position.new.self _ _ Apart Agree c.position.ensures.ran (YieldsList-from_zip (YieldsList-from_slice c.args.first.now cc) (YieldsList-from_slice c.args.second.now cc)) (λ x q k. search (rules, tests)) (λ x q k. search (rules, tests)) in
+    first_apart _ _ _ c.told-first c.told-second found

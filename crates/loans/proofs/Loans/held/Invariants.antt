@@ -1,11 +1,7 @@
-use Prim.Native.Nat.{◌-◌}
+use mathlib.Core.Path.{◌≡◌}
+use lib.ListN.{length, drop}
 use Rattle.loans.specs.Loans.{running, held_with}
-use Rattle.loans.proofs.Holding.{Holds}
-use Rattle.loans.proofs.Remaining.{remaining}
 use Rattle.loans.proofs.Loans.held.Given as goal
 
-abbrev pub invariant-loop-i : goal.invariant-loop-i
-invariant-loop-i l = Holds l.held (remaining l.self l.i) (held_with l.initial.held (running l.self))
-
-abbrev pub decreases-loop-i : goal.decreases-loop-i
-decreases-loop-i l = 32 - l.i
+abbrev pub invariant-loop-loan : goal.invariant-loop-loan
+invariant-loop-loan l = (length l.held ≡ 64) × (held_with l.held (drop l.loan-index l.loan-items) ≡ held_with l.fn.assigned (running l.fn.self))

@@ -1,36 +1,35 @@
-use mathlib.Core.Path.{◌≡◌}
-use borrow.Author.Tests.{eq-eqb, ne_eqb}
-use Rattle.forms.specs.Tables.{found, form_at}
-use Rattle.forms.specs.Forms.{all_in_range}
-use Rattle.forms.proofs.Index.{index-line}
-use Rattle.policy_text.specs.Lines.{policy_forms}
-use Rattle.policy_text.specs.Reading.{policy_after, read_policy}
-use Rattle.policy_text.proofs.Table.{policy_starts, index-right}
+use mathlib.Core.Path.{◌≡◌, refl}
+use mathlib.Core.List.{List}
+use Rattle.std.proofs.Common.{sym, ◌∙◌, arith, ℕ}
+use Rattle.std.specs.Prelude.{Some}
+use Rattle.forms.specs.Tables.{found_form, found}
+use Rattle.forms.specs.declared.tables.Found.{Found}
+use Rattle.forms.proofs.Finding.{answered-some, answered-none}
+use Rattle.policy_text.specs.Lines.{policy_forms, policy_count}
+use Rattle.policy_text.proofs.Table.{table-length, table-distinct}
+use Rattle.policy_text.proofs.FoundPolicies.{is-no-policy, is-out-of-range, is-not-next, is-rule}
 use Rattle.policy_text.proofs.reading.read_policy.Goals as goal
 
-pub returns-then-form-eq-FORM_COUNT : goal.returns-then-form-eq-FORM_COUNT
-unfolding read_policy policy_after policy_forms
-returns-then-form-eq-FORM_COUNT c =
-    let found-there : c.find-found.result ≡ found policy_forms c.args.text.now = c.find-found.ensures in
-    rw (← found-there, eq-eqb _ _ c.if-form-eq-FORM_COUNT.true)
+there : (text : List ℕ) {f : Found} → Some f ≡ found_form (found policy_forms text) → f ≡ found policy_forms text
+there text some = (answered-some policy_forms text table-distinct some).0
+
+known : (text : List ℕ) {f : Found} → Some f ≡ found_form (found policy_forms text) → f.form ≡ policy_count → ⊥
+known text some none = let below = (answered-some policy_forms text table-distinct some).1 in omega (arith, none, below, table-length)
+
+pub returns-in_default : goal.returns-in_default
+unfolding policy_forms
+returns-in_default c = is-no-policy _ _ _ refl (answered-none policy_forms c.args.text.now table-distinct c.in_default.ensures ∙ table-length)
 
 pub returns-then-not-line_in_range : goal.returns-then-not-line_in_range
-unfolding read_policy policy_after policy_forms
-returns-then-not-line_in_range c =
-    let found-there : c.find-found.result ≡ found policy_forms c.args.text.now = c.find-found.ensures in
-    let ranged-there : let f = c.find-found.result in c.line_in_range.result ≡ all_in_range (form_at policy_forms f.form) f.values = rw (← index-line policy_forms policy_starts index-right c.find-found.result.form) c.line_in_range.ensures in
-    rw (← found-there, ne_eqb _ _ c.if-form-eq-FORM_COUNT.false, ← ranged-there, c.if-not-line_in_range.true-raw)
+unfolding policy_forms
+returns-then-not-line_in_range c = is-out-of-range _ _ _ (there _ c.in-Some.ensures) (known _ c.in-Some.ensures) (sym c.line_in_range.ensures ∙ c.if-not-line_in_range.true)
 
-pub returns-then-values-number : goal.returns-then-values-number
-unfolding read_policy policy_after policy_forms
-returns-then-values-number c =
-    let found-there : c.find-found.result ≡ found policy_forms c.args.text.now = c.find-found.ensures in
-    let ranged-there : let f = c.find-found.result in c.line_in_range.result ≡ all_in_range (form_at policy_forms f.form) f.values = rw (← index-line policy_forms policy_starts index-right c.find-found.result.form) c.line_in_range.ensures in
-    rw (← found-there, ne_eqb _ _ c.if-form-eq-FORM_COUNT.false, ← ranged-there, c.if-not-line_in_range.false-raw, ne_eqb _ _ c.if-values-number.true)
+pub returns-then-found-number : goal.returns-then-found-number
+unfolding policy_forms
+returns-then-found-number c = is-not-next _ _ _ (there _ c.in-Some.ensures) (known _ c.in-Some.ensures) (sym c.line_in_range.ensures ∙ c.if-not-line_in_range.false) c.if-found-number.true
 
 pub returns : goal.returns
-unfolding read_policy policy_after policy_forms
+unfolding policy_forms
 returns c =
-    let found-there : c.find-found.result ≡ found policy_forms c.args.text.now = c.find-found.ensures in
-    let ranged-there : let f = c.find-found.result in c.line_in_range.result ≡ all_in_range (form_at policy_forms f.form) f.values = rw (← index-line policy_forms policy_starts index-right c.find-found.result.form) c.line_in_range.ensures in
-    rw (← found-there, ne_eqb _ _ c.if-form-eq-FORM_COUNT.false, ← ranged-there, c.if-not-line_in_range.false-raw, eq-eqb _ _ c.if-values-number.false, ← c.rule_of-rule.ensures) c.rule_read.ensures
+    rw c.rule_of.ensures at c.rule_read.ensures
+    ∙ is-rule _ _ _ (there _ c.in-Some.ensures) (known _ c.in-Some.ensures) (sym c.line_in_range.ensures ∙ c.if-not-line_in_range.false) c.if-found-number.false

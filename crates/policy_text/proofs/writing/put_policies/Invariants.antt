@@ -1,10 +1,8 @@
-use Prim.Native.Nat.{◌-◌}
-use Rattle.rule_text.proofs.Texts.{Inv}
+use Rattle.forms.specs.Writing.{Wrote}
+use Rattle.rule_text.specs.Lines.{list_text}
+use Rattle.rule_text.proofs.Texts.{first_rules}
 use Rattle.policy_text.specs.Lines.{policy_text}
 use Rattle.policy_text.proofs.writing.put_policies.Given as goal
 
 abbrev pub invariant-loop-i : goal.invariant-loop-i
-invariant-loop-i l = Inv policy_text l.initial.out 0 l.list l.out l.at l.i
-
-abbrev pub decreases-loop-i : goal.decreases-loop-i
-decreases-loop-i l = l.length - l.i
+invariant-loop-i l = Wrote l.initial.out 0 (list_text policy_text 1 (first_rules l.i l.slot-items)) l.at l.out

@@ -1,7 +1,11 @@
+use mathlib.Core.Path.{ap, ◌∙◌}
 use native.Mathlib.Omega.{arith}
+use Rattle.forms.specs.Refusals.{numbered}
+use Rattle.rule_text.specs.Refusals.{refusal_number, number_if}
+use Rattle.forms.proofs.Turns.{some_left, none_left}
 use Rattle.rule_text.specs.Reading.{no_rights}
 use Rattle.rule_text.proofs.Lists.{own-language}
-use Rattle.rule_text.proofs.LineLoop.{fits, small, turn, stop, end}
+use Rattle.rule_text.proofs.LineLoop.{number_told, fits, small, turn, stop, end}
 use Rattle.rule_text.proofs.Prefixes.{rights-within, lines-most, start}
 use Rattle.rule_text.proofs.reading.read_prefix.Goals as goal
 
@@ -24,34 +28,34 @@ pub overflow_add-at : goal.overflow_add-at
 overflow_add-at c = omega (arith, c.loop-rest.invariant.last)
 
 pub returns-in_default : goal.returns-in_default
-returns-in_default c = let l = c.loop-rest in let r = c.read_line-answer in stop (own-language no_rights) l.invariant (omega arith) r.ensures c.in_default.is c.number_in.ensures
+returns-in_default c = let l = c.loop-rest in let r = c.read_line-answer in stop (own-language no_rights) l.invariant (some_left c.is_empty.ensures c.loop-rest-test.true) r.ensures (ap (numbered refusal_number) c.in_default.is) (ap number_if c.err.ensures.value ∙ number_told r.result)
 
 pub bounds-list-at : goal.bounds-list-at
-bounds-list-at c = let l = c.loop-rest in let r = c.read_line-answer in omega (arith, l.invariant.slots, small (own-language no_rights) l.invariant (omega arith) r.ensures c.in-Good.is)
+bounds-list-at c = let l = c.loop-rest in let r = c.read_line-answer in omega (arith, l.invariant.slots, small (own-language no_rights) l.invariant (some_left c.is_empty.ensures c.loop-rest-test.true) r.ensures (ap (numbered refusal_number) c.in-Ok.is))
 
 pub overflow_add-list : goal.overflow_add-list
 overflow_add-list c = omega (arith, c.loop-rest.invariant.last)
 
 pub slice_bounds-rest-count-in-loop-rest : goal.slice_bounds-rest-count-in-loop-rest
-slice_bounds-rest-count-in-loop-rest c = let l = c.loop-rest in let r = c.read_line-answer in omega (arith, fits (own-language no_rights) l.invariant (omega arith) r.ensures c.in-Good.is)
+slice_bounds-rest-count-in-loop-rest c = let l = c.loop-rest in let r = c.read_line-answer in omega (arith, fits (own-language no_rights) l.invariant (some_left c.is_empty.ensures c.loop-rest-test.true) r.ensures (ap (numbered refusal_number) c.in-Ok.is))
 
 pub slice_bounds-rest-start-in-loop-rest : goal.slice_bounds-rest-start-in-loop-rest
-slice_bounds-rest-start-in-loop-rest c = let l = c.loop-rest in let r = c.read_line-answer in omega (arith, fits (own-language no_rights) l.invariant (omega arith) r.ensures c.in-Good.is)
+slice_bounds-rest-start-in-loop-rest c = let l = c.loop-rest in let r = c.read_line-answer in omega (arith, fits (own-language no_rights) l.invariant (some_left c.is_empty.ensures c.loop-rest-test.true) r.ensures (ap (numbered refusal_number) c.in-Ok.is))
 
 pub slice_bounds-rest-end-in-loop-rest : goal.slice_bounds-rest-end-in-loop-rest
-slice_bounds-rest-end-in-loop-rest c = let l = c.loop-rest in let r = c.read_line-answer in omega (arith, fits (own-language no_rights) l.invariant (omega arith) r.ensures c.in-Good.is)
+slice_bounds-rest-end-in-loop-rest c = let l = c.loop-rest in let r = c.read_line-answer in omega (arith, fits (own-language no_rights) l.invariant (some_left c.is_empty.ensures c.loop-rest-test.true) r.ensures (ap (numbered refusal_number) c.in-Ok.is))
 
 pub overflow_add-length : goal.overflow_add-length
-overflow_add-length c = let l = c.loop-rest in let r = c.read_line-answer in omega (arith, l.invariant.size, fits (own-language no_rights) l.invariant (omega arith) r.ensures c.in-Good.is)
+overflow_add-length c = let l = c.loop-rest in let r = c.read_line-answer in omega (arith, l.invariant.size, fits (own-language no_rights) l.invariant (some_left c.is_empty.ensures c.loop-rest-test.true) r.ensures (ap (numbered refusal_number) c.in-Ok.is))
 
 pub overflow_add-line-in-loop-rest : goal.overflow_add-line-in-loop-rest
 overflow_add-line-in-loop-rest c = let l = c.loop-rest in omega (arith, l.invariant.counted, l.invariant.few, l.invariant.last)
 
 pub loop-rest-smaller : goal.loop-rest-smaller
-loop-rest-smaller c = let l = c.loop-rest in let r = c.read_line-answer in omega (arith, small (own-language no_rights) l.invariant (omega arith) r.ensures c.in-Good.is)
+loop-rest-smaller c = let l = c.loop-rest in let r = c.read_line-answer in omega (arith, small (own-language no_rights) l.invariant (some_left c.is_empty.ensures c.loop-rest-test.true) r.ensures (ap (numbered refusal_number) c.in-Ok.is))
 
 pub loop-rest-preserved : goal.loop-rest-preserved
-loop-rest-preserved c = let l = c.loop-rest in let r = c.read_line-answer in turn (own-language no_rights) l.invariant (omega arith) r.ensures c.in-Good.is
+loop-rest-preserved c = let l = c.loop-rest in let r = c.read_line-answer in turn (own-language no_rights) l.invariant (some_left c.is_empty.ensures c.loop-rest-test.true) r.ensures (ap (numbered refusal_number) c.in-Ok.is)
 
 pub returns : goal.returns
-returns c = end _ c.loop-rest.invariant (omega arith)
+returns c = end _ c.loop-rest.invariant (none_left c.is_empty.ensures c.loop-rest-test.false)

@@ -1,9 +1,7 @@
-use Prim.Native.Nat.{◌-◌}
-use Rattle.rule_text.proofs.Texts.{RightsInv}
+use lib.ListN.{take}
+use Rattle.forms.specs.Writing.{Wrote}
+use Rattle.rule_text.specs.Lines.{rights_text}
 use Rattle.rule_text.proofs.writing.put_rights.Given as goal
 
 abbrev pub invariant-loop-kind : goal.invariant-loop-kind
-invariant-loop-kind l = RightsInv l.initial.out l.rights l.out l.at l.kind
-
-abbrev pub decreases-loop-kind : goal.decreases-loop-kind
-decreases-loop-kind l = 6 - l.kind
+invariant-loop-kind l = Wrote l.initial.out 0 (rights_text 0 (take l.kind l.rights)) l.at l.out

@@ -1,10 +1,7 @@
-use Prim.Native.Nat.{◌-◌}
-use Rattle.rule_text.specs.Lines.{rule_text}
-use Rattle.rule_text.proofs.Texts.{Inv}
+use Rattle.forms.specs.Writing.{Wrote}
+use Rattle.rule_text.specs.Lines.{list_text, rule_text}
+use Rattle.rule_text.proofs.Texts.{first_rules}
 use Rattle.rule_text.proofs.writing.put_rules.Given as goal
 
 abbrev pub invariant-loop-i : goal.invariant-loop-i
-invariant-loop-i l = Inv rule_text l.initial.out l.start l.list l.out l.at l.i
-
-abbrev pub decreases-loop-i : goal.decreases-loop-i
-decreases-loop-i l = l.length - l.i
+invariant-loop-i l = Wrote l.initial.out l.start (list_text rule_text 1 (first_rules l.i l.slot-items)) l.at l.out

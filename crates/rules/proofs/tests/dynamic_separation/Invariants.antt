@@ -1,12 +1,8 @@
 use mathlib.Core.Path.{◌≡◌}
-use Prim.Native.Nat.{◌≤◌, ◌-◌}
 use Rattle.rules.specs.Breach.{first_broken}
-use Rattle.rules.proofs.Steps.{not_in_both}
-use Rattle.rules.specs.declared.tests.Tested.TheVariants.{Kept}
+use Rattle.rules.specs.Families.{dynamic_separation_at}
+use Rattle.std.specs.Prelude.{None}
 use Rattle.rules.proofs.tests.dynamic_separation.Given as goal
 
-abbrev pub invariant-users : goal.invariant-users
-invariant-users l = (l.user ≤ 64) × (first_broken l.user (not_in_both l.with_first l.with_second) ≡ Kept)
-
-abbrev pub decreases-users : goal.decreases-users
-decreases-users l = 64 - l.user
+abbrev pub invariant-loop-user : goal.invariant-loop-user
+invariant-loop-user l = first_broken l.user (dynamic_separation_at l.sessions l.active l.first l.second) ≡ None

@@ -1,25 +1,19 @@
-use Rattle.rules.specs.Families.{session_at}
 use borrow.Author.Rules.{rules}
-use mathlib.Core.Path.{◌≡◌, sym, ap, ◌∙◌}
+use mathlib.Core.Path.{sym, ap, ap₂, ◌∙◌}
 use Prim.Native.Nat.{ℕ}
-use native.Mathlib.Omega.{arith}
+use lib.ListN.{length}
+use Rattle.std.proofs.lemmas.Slice.Zip.{zip_turn}
+use Rattle.std.proofs.Common.{length-append}
 use Rattle.sets.specs.Sets.{with}
-use Rattle.rules.proofs.Steps.{no-users, user-more, user-same}
-use Rattle.rules.specs.Families.{is_active_for}
+use Rattle.rules.specs.Families.{closed_session}
+use Rattle.rules.specs.declared.sessions.Session.{Session}
+use Rattle.rules.proofs.Steps.{active_users, user-more}
 use Rattle.rules.proofs.tests.users_active.Goals as goal
-use Rattle.rules.proofs.tests.users_active.Goals.{else-member, then-member}
 
-pub loop-i-init : goal.loop-i-init
-loop-i-init c = (omega arith, no-users c.args.sessions c.args.active.now c.args.role)
-
-pub loop-i-preserved : goal.loop-i-preserved
-loop-i-preserved c =
-    let before = c.loop-i in
-    let a = c.args in (
-      search rules,
-      elim c.if-member.branch [ then-member w ↦ w.users-is ∙ w.with-users.ensures ∙ ap (λ (n : ℕ). with 64 n (session_at a.sessions before.i).user) before.invariant.1 ∙ user-more a.sessions a.active.now a.role before.i (sym c.member.ensures ∙ w.if-member.true) | else-member w ↦ w.users-is ∙ before.invariant.1 ∙ user-same a.sessions a.active.now a.role before.i (sym c.member.ensures ∙ w.if-member.false) ],
-    )
-
-pub returns : goal.returns
-unfolding is_active_for
-returns c = let end : c.loop-i.i ≡ 32 = omega arith in rw (← end) c.loop-i.invariant.1
+pub loop-session-preserved-then-contains : goal.loop-session-preserved-then-contains
+loop-session-preserved-then-contains c =
+    let turn = zip_turn c.args.sessions.now c.args.active.now c.loop-session.yielded c.into_iter-session-iterator.result c.loop-session.session-iterator c.next.new.self _ (search rules) (search rules) c.loop-session.yielded_by (c.in-Some.session, c.in-Some.roles) c.in-Some.is c.next.ensures.steps in
+    c.with-users.ensures
+    ∙ ap₂ (λ (n : ℕ) (session : Session). with 64 n session.user) c.loop-session.invariant (turn.2 closed_session)
+    ∙ user-more c.args.sessions.now c.args.active.now c.args.role (length c.loop-session.yielded) (rw (← turn.3 0) (sym c.contains.ensures.member ∙ c.if-contains.true))
+    ∙ ap (active_users c.args.sessions.now c.args.active.now c.args.role) (sym (length-append _ _))

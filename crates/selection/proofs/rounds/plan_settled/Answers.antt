@@ -3,29 +3,29 @@ use mir.Syntax.{w32}
 use mir.Val.{Fits}
 use Rattle.rules.specs.Families.{word_at}
 use Rattle.selection.specs.Ending.{plan_settled}
-use Rattle.selection.proofs.Settling.{small-roles, turn-roles, turn_end, turn-less, turn-next}
+use Rattle.selection.proofs.Settling.{pointwise-same, small-roles, turn-roles, turn_end, turn-less, turn-next}
 use borrow.Author.Rules.{rules}
 use Rattle.selection.proofs.rounds.plan_settled.Goals as goal
 
-pub loop-out-init : goal.loop-out-init
+pub loop-less-init : goal.loop-less-init
 unfolding plan_settled
-loop-out-init c = (search rules, small-roles c.args.active (λ j. let fits : Fits w32 (word_at c.args.active j) = search rules in fits.fits), refl)
+loop-less-init c = (search rules, small-roles c.args.active (λ j. let fits : Fits w32 (word_at c.args.active j) = search rules in fits.fits), refl)
 
-pub returns-then-is_same : goal.returns-then-is_same
-returns-then-is_same c =
-    let now = c.loop-out in
-    sym (turn_end _ _ _ now.kept _ now.invariant.1 c.plan_round-less.ensures (sym c.is_same.ensures ∙ c.if-is_same.true)) ∙ now.invariant.2
+pub returns-then-eq : goal.returns-then-eq
+returns-then-eq c =
+    let now = c.loop-less in
+    sym (turn_end _ _ _ now.kept _ now.invariant.1 c.plan_round-less.ensures (sym (c.eq.ensures ∙ pointwise-same _ _) ∙ c.if-eq.true)) ∙ now.invariant.2
 
-pub loop-out-smaller : goal.loop-out-smaller
-loop-out-smaller c =
-    let now = c.loop-out in
-    turn-less _ _ _ now.kept _ now.invariant.1 c.plan_round-less.ensures (sym c.is_same.ensures ∙ c.if-is_same.false)
+pub loop-less-smaller : goal.loop-less-smaller
+loop-less-smaller c =
+    let now = c.loop-less in
+    turn-less _ _ _ now.kept _ now.invariant.1 c.plan_round-less.ensures (sym (c.eq.ensures ∙ pointwise-same _ _) ∙ c.if-eq.false)
 
-pub loop-out-preserved : goal.loop-out-preserved
-loop-out-preserved c =
-    let now = c.loop-out in
+pub loop-less-preserved : goal.loop-less-preserved
+loop-less-preserved c =
+    let now = c.loop-less in
     let round = c.plan_round-less in (
       search rules,
       turn-roles _ _ _ now.kept _ now.invariant.1 round.ensures,
-      turn-next _ _ _ now.kept _ now.invariant.1 round.ensures (sym c.is_same.ensures ∙ c.if-is_same.false) ∙ now.invariant.2,
+      turn-next _ _ _ now.kept _ now.invariant.1 round.ensures (sym (c.eq.ensures ∙ pointwise-same _ _) ∙ c.if-eq.false) ∙ now.invariant.2,
     )

@@ -1,10 +1,6 @@
-use Prim.Native.Nat.{◌*◌, ◌-◌, ◌≤◌}
-use lib.ListN.{length}
+use Prim.Native.Nat.{◌*◌, ◌≤◌}
 use Rattle.state_text.proofs.Measures.{RowsTill}
 use Rattle.state_text.proofs.measuring.rows_length.Given as goal
 
 abbrev pub invariant-loop-i : goal.invariant-loop-i
-invariant-loop-i l = (l.i ≤ length l.words) × (l.total ≤ l.i * 2048) × RowsTill l.bytes l.words l.total l.i
-
-abbrev pub decreases-loop-i : goal.decreases-loop-i
-decreases-loop-i l = length l.words - l.i
+invariant-loop-i l = (l.total ≤ l.i * 2048) × RowsTill l.bytes l.words l.total l.i

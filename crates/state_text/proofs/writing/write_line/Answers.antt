@@ -5,4 +5,4 @@ use Rattle.state_text.proofs.writing.write_line.Goals as goal
 
 pub returns : goal.returns
 unfolding saved_forms line_text
-returns c = rw (← c.values-values.ensures, ← c.form.ensures, ← index-line saved_forms form_starts index-right) c.write_line.ensures
+returns c = rw (← c.values.ensures, ← c.form.ensures, ← index-line saved_forms form_starts index-right) c.write_line.ensures

@@ -1,18 +1,13 @@
 use native.Mathlib.Omega.{arith}
-use Rattle.state_text.proofs.Writes.{start, same, end, row-turn}
+use borrow.Author.Rules.{rules}
+use Rattle.state_text.proofs.Writes.{start, end, row-turn}
 use Rattle.state_text.proofs.writing.write_rows.Goals as goal
 
 pub loop-i-init : goal.loop-i-init
-loop-i-init c = (start _ _ _ (omega arith) (omega arith), omega arith)
+loop-i-init g c = λ entry told. start _ _ _ (omega arith) (omega arith)
 
 pub loop-i-preserved : goal.loop-i-preserved
-loop-i-preserved c =
-    let i = c.loop-i.i in
-    let w = c.wide in
-    (row-turn _ _ c.loop-i.invariant.0 w.ensures (omega (arith, w.ensures, c.shared_slice_known-in-loop-i-1.given i)) c.write_set-place.ensures, omega arith)
-
-pub shape_of-out : goal.shape_of-out
-shape_of-out c = same c.loop-i.invariant.0
+loop-i-preserved g c = λ entry told. row-turn entry _ (c.loop-i.invariant entry told) (omega (arith, c.type_inv.words c.loop-i.i)) (rw c.from.ensures at (c.write_set-place.ensures (entry c.loop-i.i) (λ member written ran. told _ _ _ (search rules))))
 
 pub returns : goal.returns
-returns c = end _ c.loop-i.invariant.0 c.loop-i.invariant.1 (omega arith)
+returns g c = λ entry told. end _ (c.loop-i.invariant entry told) (omega arith) (omega arith)

@@ -1,20 +1,23 @@
+use mathlib.Core.Path.{sym, ◌∙◌}
 use native.Mathlib.Omega.{arith}
+use borrow.Author.Tests.{eqb-true}
 use Rattle.state_text.specs.Parts.{set_lines}
-use Rattle.state_text.proofs.Writes.{start, turn, same, end, empty-set}
+use Rattle.state_text.proofs.Writes.{start, end, empty-set, member-turn, other-turn}
 use Rattle.state_text.proofs.writing.write_set.Goals as goal
+use Rattle.state_text.proofs.writing.write_set.Goals.{then-contains, else-contains}
 
-pub returns-then-set-eq0 : goal.returns-then-set-eq0
-returns-then-set-eq0 c = empty-set _ _ _ _ c.if-set-eq0.true _ _ (omega arith)
+pub returns-then-is_empty : goal.returns-then-is_empty
+returns-then-is_empty g c = λ entry told. empty-set entry _ (eqb-true c.args.set 0 (sym c.is_empty.ensures ∙ c.if-is_empty.true)) _ _ (omega arith)
 
-pub loop-j-init : goal.loop-j-init
-loop-j-init c = (start _ _ _ (omega arith) (omega arith), omega arith)
+pub loop-member-init : goal.loop-member-init
+loop-member-init g c = λ entry told. start _ _ _ (omega arith) (omega arith)
 
-pub loop-j-preserved : goal.loop-j-preserved
-loop-j-preserved c = (turn c.loop-j.invariant.0 c.write_member-place.ensures, omega arith)
-
-pub shape_of-out : goal.shape_of-out
-shape_of-out c = same c.loop-j.invariant.0
+pub loop-member-preserved : goal.loop-member-preserved
+loop-member-preserved g c = λ entry told. elim c.if-contains.branch [
+  | then-contains w ↦ rw (w.out-is, w.place-is) (member-turn entry _ (c.loop-member.invariant entry told) (sym c.contains.ensures.member ∙ w.if-contains.true) (told _ _ w.line.ensures) w.write_line-place.ensures)
+  | else-contains w ↦ rw (w.out-is, w.place-is) (other-turn entry _ (c.loop-member.invariant entry told) (sym c.contains.ensures.member ∙ w.if-contains.false))
+]
 
 pub returns : goal.returns
 unfolding set_lines
-returns c = end 64 c.loop-j.invariant.0 c.loop-j.invariant.1 (omega arith)
+returns g c = λ entry told. end 64 (c.loop-member.invariant entry told) (omega arith) (omega arith)

@@ -15,4 +15,4 @@ returns-then-out-saved_length c =
 pub returns : goal.returns
 returns c =
     let e = sym c.is_accepted.ensures ∙ not-false _ c.if-not-is_accepted.false-raw in
-    accepted _ _ e (fitting _ _ (omega (arith, c.saved_length.ensures)) (omega arith) c.write_lines-length.ensures)
+    accepted _ _ e (fitting _ _ (omega (arith, c.saved_length.ensures)) (omega arith) c.write_lines.ensures)

@@ -6,6 +6,7 @@ use lib.ListN.{length, take, drop, length-drop}
 use borrow.Author.Tests.{not-true, not-false}
 use Rattle.forms.proofs.Puts.{like}
 use Rattle.forms.proofs.Turns.{rest}
+use Rattle.rule_text.specs.Reading.{prefix_told}
 use Rattle.texts.proofs.Responding.{starts-room, line-most, prefix-line, prefix-within, response-without, response-with}
 use Rattle.texts.proofs.responses.put_response.Goals as goal
 
@@ -17,17 +18,17 @@ short input n h =
     (omega (arith, length-drop 8 (drop n input), length-drop n input))
 
 pub slice_bounds-rest-count : goal.slice_bounds-rest-count
-slice_bounds-rest-count c = omega (arith, prefix-within c.args.input.now c.read_prefix-prefix.result c.read_prefix-prefix.ensures)
+slice_bounds-rest-count c = omega (arith, prefix-within c.args.input.now (prefix_told c.read_prefix-prefix.result) c.read_prefix-prefix.ensures)
 
 pub slice_bounds-rest-start : goal.slice_bounds-rest-start
-slice_bounds-rest-start c = omega (arith, prefix-within c.args.input.now c.read_prefix-prefix.result c.read_prefix-prefix.ensures)
+slice_bounds-rest-start c = omega (arith, prefix-within c.args.input.now (prefix_told c.read_prefix-prefix.result) c.read_prefix-prefix.ensures)
 
 pub returns-then-not-starts_steps : goal.returns-then-not-starts_steps
 returns-then-not-starts_steps c =
     let input = c.args.input.now in
     let prefix = c.read_prefix-prefix in
     like
-    (response-without input (omega arith) prefix.result prefix.ensures _ refl _ c.number_without_steps.ensures
+    (response-without input (omega arith) (prefix_told prefix.result) prefix.ensures _ refl _ c.number_without_steps.ensures
     (sym c.starts_steps.ensures ∙ not-true _ c.if-not-starts_steps.true-raw))
     c.put_bad-then-not-starts_steps.ensures
 
@@ -45,7 +46,7 @@ pub put_steps-requires : goal.put_steps-requires
 put_steps-requires c =
     let input = c.args.input.now in
     let prefix = c.read_prefix-prefix in (
-      omega (arith, prefix-line input prefix.result prefix.ensures, line-most input),
+      omega (arith, prefix-line input (prefix_told prefix.result) prefix.ensures, line-most input),
       short input prefix.result.length (omega arith),
     )
 
@@ -54,5 +55,5 @@ returns c =
     let input = c.args.input.now in
     let prefix = c.read_prefix-prefix in
     like
-    (response-with input (omega arith) prefix.result prefix.ensures _ refl _ refl (sym c.starts_steps.ensures ∙ not-false _ c.if-not-starts_steps.false-raw))
+    (response-with input (omega arith) (prefix_told prefix.result) prefix.ensures _ refl _ refl (sym c.starts_steps.ensures ∙ not-false _ c.if-not-starts_steps.false-raw))
     c.put_steps.ensures

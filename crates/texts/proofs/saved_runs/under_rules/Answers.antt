@@ -1,8 +1,10 @@
+use mathlib.Core.Path.{sym, ap, ◌∙◌}
+use Rattle.state_text.specs.Reading.{outcome}
 use Rattle.texts.proofs.SavedRunning.{state-refused, state-loaded}
 use Rattle.texts.proofs.saved_runs.under_rules.Goals as goal
 
-pub returns-then-read-ne0 : goal.returns-then-read-ne0
-returns-then-read-ne0 c = let read = c.read_state-read in state-refused _ _ read.result read.ensures c.if-read-ne0.true
+pub returns-in-Ok : goal.returns-in-Ok
+returns-in-Ok c = state-loaded _ _ _ (sym (ap outcome c.in-Ok.is) ∙ c.read_state.ensures)
 
-pub returns : goal.returns
-returns c = let read = c.read_state-read in state-loaded _ _ read.result read.ensures c.if-read-ne0.false
+pub returns-in-Err : goal.returns-in-Err
+returns-in-Err c = rw (c.refused_texts.ensures, c.number.ensures, c.place.ensures) (state-refused _ _ _ _ (sym (ap outcome c.in-Err.is) ∙ c.read_state.ensures))

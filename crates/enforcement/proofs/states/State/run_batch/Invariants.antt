@@ -1,9 +1,7 @@
-use Prim.Native.Nat.{◌-◌}
-use Rattle.enforcement.proofs.Batching.{Batching}
+use mathlib.Core.Path.{◌≡◌}
+use Rattle.enforcement.specs.Batches.{entry_of, unanswered}
+use Rattle.enforcement.proofs.Running.{state_at, values_at}
 use Rattle.enforcement.proofs.states.State.run_batch.Given as goal
 
 abbrev pub invariant-loop-i : goal.invariant-loop-i
-invariant-loop-i l = Batching l.list l.initial.self l.batch l.last l.self.history l.entries l.i
-
-abbrev pub decreases-loop-i : goal.decreases-loop-i
-decreases-loop-i l = 32 - l.i
+invariant-loop-i l = (l.self ≡ state_at l.list l.fn.self l.step-items l.i) × (l.entries ≡ values_at entry_of l.list l.fn.self l.step-items unanswered l.i)
