@@ -1,5 +1,5 @@
-// How a step is decided, in place: nothing of a state's 9 KB is copied.
-ghost use Rattle.std.specs.Prelude.{◌≡◌, IfOk};
+// How a step is decided, in place: the state as a whole is not copied.
+ghost use Rattle.std.specs.Prelude.{◌≡◌};
 ghost use Rattle.rules.specs.Acceptance.{rules_of};
 ghost use Rattle.enforcement.specs.Gate.{decide_step};
 ghost use Rattle.enforcement.specs.Deciding.{Ranged, decide, next_of, answered, RightChecked};

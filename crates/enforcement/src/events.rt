@@ -2,21 +2,15 @@
 // and rounds on sets of roles follow it until nothing changes.
 #![tactic(auto, unfolding(crate::specs::Deciding::decide, crate::specs::Deciding::event_of, crate::specs::Deciding::placed_of, crate::specs::Steps::check, crate::specs::Steps::target, crate::specs::Steps::unheld_closed, crate::specs::Gate::checked_next, crate::specs::Gate::passed_next, loans::specs::Meant::meant))]
 
-ghost use Rattle.std.specs.Prelude.{◌≡◌, not, ◌&&◌, List, ℕ, ◌<◌};
-ghost use Rattle.sets.specs.Sets.{member};
-ghost use Rattle.places.specs.Places.{side_holds};
+ghost use Rattle.std.specs.Prelude.{◌≡◌, ◌<◌};
 ghost use Rattle.rules.specs.Acceptance.{rules_of};
-ghost use Rattle.selection.specs.Selection.{selects};
-ghost use Rattle.enforcement.specs.Deciding.{decide, next_of, answered, event_of, held_event_of, placed_of, Planned, Adds, RuledOut};
+ghost use Rattle.enforcement.specs.Deciding.{decide, next_of, answered, event_of, held_event_of, placed_of};
 
 use crate::states::{State, closed_session};
 use loans::Which;
-use places::{Point, Position, Side};
-use rules::tests::active_somewhere;
-use rules::{Rule, RuleList, Session};
+use places::{Point, Position};
+use rules::RuleList;
 use selection::rounds::{held_active, plan_settled};
-use selection::selection::{choice_of, first_of, is_chosen};
-use sets::Set;
 use steps::pairs::ended;
 use steps::{Action, Answer, Refusal};
 

@@ -2,7 +2,7 @@
 // broken.
 #![tactic(auto, using(crate::proofs::RequestLaws::carried_permissions), unfolding(crate::specs::Deciding::decide, crate::specs::Deciding::request_of, crate::specs::Steps::check, crate::specs::Steps::target, crate::specs::Gate::checked_next, crate::specs::Gate::passed_next, loans::specs::Meant::meant, rights::specs::Rights::is_carried))]
 
-ghost use Rattle.std.specs.Prelude.{◌≡◌, false, List, ℕ, ◌<◌, ◌≤◌};
+ghost use Rattle.std.specs.Prelude.{◌≡◌, false, List, ◌<◌, ◌≤◌};
 ghost use Rattle.rules.specs.Acceptance.{rules_of};
 ghost use Rattle.rules.specs.Families.{view, is_active_for};
 ghost use Rattle.rules.specs.declared.families.Rule.{Rule};

@@ -1,5 +1,4 @@
 // Two rule lists joined into a list of rules that the caller lends.
-ghost use Rattle.std.specs.Prelude.{◌≡◌};
 ghost use Rattle.joining.specs.Lent.{JoinedAs};
 
 use crate::lists::join;

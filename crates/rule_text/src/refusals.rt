@@ -14,7 +14,7 @@ pub enum Refusal {
     SameTwice,
     // No such date, or an end before its start.
     Unsound,
-    // The policy has no rule.
+    // The line is none of the policies that are read.
     NoPolicy,
 }
 

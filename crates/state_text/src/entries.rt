@@ -1,5 +1,5 @@
 // The lines of a saved state.
-ghost use Rattle.std.specs.Prelude.{◌≡◌, ◌+◌, ◌*◌, ◌<◌, length};
+ghost use Rattle.std.specs.Prelude.{◌≡◌, ◌+◌, ◌*◌, ◌<◌};
 ghost use Rattle.state_text.specs.Entries.{entry_of, form_of, values_of, rank, follows};
 ghost use Rattle.state_text.specs.Causes.{Ranged};
 ghost use Rattle.state_text.specs.Parts.{next_of};

@@ -1,6 +1,6 @@
 // A saved text as a state. Each line is handed on from the byte after the last one's end, and the reader's answer taken apart by a let else
 // (docs/DECISIONS.md, Forms).
-ghost use Rattle.std.specs.Prelude.{◌≡◌, ◌≤◌};
+ghost use Rattle.std.specs.Prelude.{◌≡◌};
 ghost use Rattle.forms.specs.Refusals.{numbered};
 ghost use Rattle.enforcement.specs.States.{held_roles};
 ghost use Rattle.state_text.specs.Refusals.{line_number};

@@ -16,7 +16,7 @@ use loans::Loan;
 use places::{Point, Position};
 use sets::Set;
 
-// The text of a state that 40 does not refuse, or the refusal's number; then every byte stays.
+// The text of a state that 40 does not refuse, or the refusal; then every byte stays.
 pub fn write_state(state: State, out: &mut [u8]) -> Result<usize, WriteRefusal>
     ensures { (numbered write_number result ≡ written_state state out.old) × (out.new ≡ lent_state state out.old) }
 {

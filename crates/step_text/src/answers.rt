@@ -1,5 +1,4 @@
 // The answers as text.
-ghost use Rattle.std.specs.Prelude.{◌≡◌};
 ghost use Rattle.forms.specs.Writing.{Wrote};
 ghost use Rattle.step_text.specs.Answers.{line_text, answer_text, bad_text};
 

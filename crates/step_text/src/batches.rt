@@ -1,5 +1,4 @@
 // Steps read and answers written a batch at a time.
-ghost use Rattle.std.specs.Prelude.{◌≡◌, take};
 ghost use Rattle.forms.specs.Writing.{Wrote};
 ghost use Rattle.step_text.specs.Batches.{ReadsFront, entries_text};
 

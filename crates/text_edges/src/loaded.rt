@@ -1,6 +1,5 @@
 // What the cases load: rule lists in either language, also joined, and saved states.
 use crate::cases::Kind;
-use crate::quoting;
 use crate::writing::{self, Refused};
 use enforcement::State;
 use rule_text::BadLine;

@@ -1,6 +1,4 @@
 // Rule lists, in either language, saved states and responses, written where so many bytes are lent.
-ghost use Rattle.std.specs.Prelude.{◌≡◌, length};
-
 use crate::quoting;
 use forms::WriteRefusal;
 use std::io;
