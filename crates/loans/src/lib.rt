@@ -10,7 +10,7 @@ use calendar::Term;
 use sets::Set;
 use steps::Step;
 
-// A role that one user is assigned and another has until a time. It has 8 bytes: a state goes by value.
+// A role that one user is assigned and another has until a time. It has 8 bytes: a state goes by value at the gate's public doors.
 #[derive(Clone, Copy, Debug, PartialEq, Eq)]
 pub struct Loan {
     pub until: u32,
