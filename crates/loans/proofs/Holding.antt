@@ -3,7 +3,7 @@
 use mathlib.Core.Path.{◌≡◌, refl, sym, ap, ◌∙◌}
 use mathlib.Core.Bool.{Bool, true, false, ◌&&◌, ◌||◌, or-false, or_assoc}
 use mathlib.Core.List.{List, [], ◌∷◌}
-use Prim.Native.Nat.{ℕ, zero, suc, ◌≤◌, ◌<◌}
+use Prim.Native.Nat.{ℕ, zero, suc, ◌^◌, ◌≤◌, ◌<◌}
 use native.Mathlib.Decide.{ℕ_discrete}
 use native.Mathlib.Omega.{arith}
 use borrow.Author.Tests.{eq-eqb, ne_eqb, lt-ltb}
@@ -13,6 +13,7 @@ use lib.Seq.{get_or-set_same, get_or-set_other}
 use Rattle.sets.specs.Sets.{member, with}
 use Rattle.sets.proofs.Booleans.{left_or}
 use Rattle.sets.proofs.Members.{member-empty, member-with}
+use Rattle.sets.proofs.Width.{with-lt}
 use Rattle.rules.specs.Families.{word_at, has_role}
 use Rattle.loans.specs.Loans.{accepted_from, is_borrowed, some_loan, held_with}
 use Rattle.loans.specs.declared.Loan.{Loan}
@@ -24,6 +25,13 @@ use Rattle.loans.proofs.Order.{accepted-first}
 -- the words with role q of user v
 abbrev with_role : List ℕ → ℕ → ℕ → List ℕ
 with_role roles v q = set roles v (with 32 (word_at roles v) q)
+
+with-role-small : (roles : List ℕ) (v q u : ℕ) → word_at roles u < 2 ^ 32 → word_at (with_role roles v q) u < 2 ^ 32
+with-role-small [] v q u h = h
+with-role-small (word ∷ roles) zero q zero h = with-lt 32 word q h
+with-role-small (word ∷ roles) zero q (suc u) h = h
+with-role-small (word ∷ roles) (suc v) q zero h = h
+with-role-small (word ∷ roles) (suc v) q (suc u) h = with-role-small roles v q u h
 
 with-role-keeps : (roles : List ℕ) (v q u r : ℕ) → has_role roles u r ≡ true → has_role (with_role roles v q) u r ≡ true
 with-role-keeps [] v q u r h = h
@@ -42,6 +50,18 @@ with-role-means roles v q u r user role = go (ℕ_discrete v u)
         rw (get_or-set_other roles v u (with 32 (word_at roles v) q) 0 (λ e. n (sym e)), ne_eqb v u n, or-false)
 
 -- ---- all loans
+
+pub length-held : (roles : List ℕ) (l : List Loan) → length (held_with roles l) ≡ length roles
+unfolding held_with
+length-held roles [] = refl
+length-held roles (loan ∷ l) =
+    length-held (with_role roles loan.borrower loan.role) l ∙ length-set roles loan.borrower (with 32 (word_at roles loan.borrower) loan.role)
+
+-- a word of 32 digits stays one
+pub held_small : (roles : List ℕ) (l : List Loan) (u : ℕ) → word_at roles u < 2 ^ 32 → word_at (held_with roles l) u < 2 ^ 32
+unfolding held_with
+held_small roles [] u h = h
+held_small roles (loan ∷ l) u h = held_small (with_role roles loan.borrower loan.role) l u (with-role-small roles loan.borrower loan.role u h)
 
 -- what is assigned is held, whatever the loans
 pub held-assigned : (roles : List ℕ) (l : List Loan) (u r : ℕ) → has_role roles u r ≡ true → has_role (held_with roles l) u r ≡ true

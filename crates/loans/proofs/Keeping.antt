@@ -1,7 +1,7 @@
 -- Loans of a list that pass a test: whether there is one, and those that do.
 -- Assumes nothing.
 use mathlib.Core.Path.{◌≡◌, refl, sym, ap, ◌∙◌}
-use mathlib.Core.Bool.{Bool, true, false, cond, ◌||◌}
+use mathlib.Core.Bool.{Bool, true, false, cond, ◌&&◌, ◌||◌}
 use mathlib.Core.List.Memᴰ
 use mathlib.Core.List.{List, [], ◌∷◌, Memᴰ}
 use mathlib.Core.Logic.{◌↔◌, ◌⊎◌, inl, inr, ⊎_elim}
@@ -10,7 +10,7 @@ use native.Mathlib.Nat.{min-le_right}
 use native.Mathlib.Omega.{arith}
 use lib.ListN.{length, length-take}
 use Rattle.std.specs.List.{list_any}
-use Rattle.sets.proofs.Booleans.{clash, left_or, right_or, of_or, not_so}
+use Rattle.sets.proofs.Booleans.{clash, left_or, right_or, of_or, not_so, same_test}
 use Rattle.loans.specs.Loans.{running, some_loan, kept_loans}
 use Rattle.loans.specs.declared.Loan.{Loan}
 use Rattle.loans.specs.declared.Loans.{Loans}
@@ -60,6 +60,13 @@ some-means test l = (of_some test l, λ found. some_of test found.0 l found.1 fo
 pub none_of : (test : Loan → Bool) (loan : Loan) (l : List Loan) → some_loan test l ≡ false → Memᴰ loan l → test loan ≡ false
 none_of test loan l none m = not_so (test loan) (λ e. clash (some_of test loan l m e) none)
 
+-- two tests that come out alike at each loan of the list
+pub some_same : (first second : Loan → Bool) (l : List Loan) → ((loan : Loan) → Memᴰ loan l → first loan ≡ second loan) → some_loan first l ≡ some_loan second l
+some_same first second l alike =
+    same_test (some_loan first l) (some_loan second l)
+    (λ e. let found = of_some first l e in some_of second found.0 l found.1 (sym (alike found.0 found.1) ∙ found.2))
+    (λ e. let found = of_some second l e in some_of first found.0 l found.1 (alike found.0 found.1 ∙ found.2))
+
 -- the library's word for it
 pub some-any : (test : Loan → Bool) (l : List Loan) → some_loan test l ≡ list_any test l
 unfolding some_loan
@@ -95,3 +102,13 @@ has_kept test loan (first ∷ l) m e = go (test first) refl (Memᴰ.cases_cons m
 
 pub kept-means : (test : Loan → Bool) (loan : Loan) (l : List Loan) → Memᴰ loan (kept_loans test l) ↔ (Memᴰ loan l × (test loan ≡ true))
 kept-means test loan l = (of-kept test loan l, λ h. has_kept test loan l h.0 h.1)
+
+pub some-kept : (test p : Loan → Bool) (l : List Loan) → some_loan p (kept_loans test l) ≡ some_loan (λ loan. test loan && p loan) l
+unfolding kept_loans some_loan
+some-kept test p [] = refl
+some-kept test p (loan ∷ l) = go (test loan) (some-kept test p l)
+  where
+    go : (b : Bool) → some_loan p (kept_loans test l) ≡ some_loan (λ loan. test loan && p loan) l →
+        some_loan p (cond b (loan ∷ kept_loans test l) (kept_loans test l)) ≡ ((b && p loan) || some_loan (λ loan. test loan && p loan) l)
+    go true h = ap (λ (b : Bool). p loan || b) h
+    go false h = h

@@ -6,12 +6,16 @@ use Prim.Native.Nat.{ℕ, suc, ◌+◌, ◌-◌, ◌*◌, ◌<◌, ◌≤◌}
 use native.Mathlib.Nat.{mul-le-mul, mul-suc, suc-mul, le_refl}
 use native.Mathlib.Omega.{arith}
 use lib.Dec.{leb}
-use borrow.Author.Tests.{leb-true, leb-false}
+use borrow.Author.Tests.{lt-leb, leb-true, leb-false}
 
 pub square-less : (r n : ℕ) → r < n → r * r < n * n
 square-less r n h =
     let next : r * r < suc r * suc r = simp (mul-suc, suc-mul) (omega arith) in
     omega (arith, next, mul-le-mul h h)
+
+-- a sum that has the square of a number above r in it is above the square of r
+pub sum_over : (n r s : ℕ) → r < n → n * n ≤ s → leb s (r * r) ≡ false
+sum_over n r s h part = let less = square-less r n h in lt-leb s (r * r) (omega arith)
 
 -- ---- roots and factors
 

@@ -1,23 +1,26 @@
 -- What of a list has no policy: a right line, or the lowest rule that has none.
 -- Assumes nothing.
 use mathlib.Core.Path.{◌≡◌, refl, sym, ap, ◌∙◌, subst}
-use mathlib.Core.Bool.{Bool, true, false, cond, ◌||◌}
+use mathlib.Core.Bool.{Bool, true, false, cond, not, ◌||◌}
 use mathlib.Core.Logic.{◌↔◌}
-use mathlib.Core.List.{List}
-use Prim.Native.Nat.{ℕ, zero, suc, ◌≤◌, ◌<◌}
+use mathlib.Core.List.{List, [], ◌∷◌}
+use Prim.Native.Nat.{ℕ, zero, suc, ◌+◌, ◌≤◌, ◌<◌}
 use native.Mathlib.Numerals.{add-one}
 use native.Mathlib.Omega.{arith}
 use lib.Dec.{ltb}
 use lib.ListN.{length, take, get_or}
 use lib.Seq.{take_all}
-use Rattle.std.specs.Prelude.{Some, None}
-use Rattle.std.specs.List.{list_any}
+use Rattle.std.specs.Prelude.{Option, Some, None, map}
+use Rattle.std.specs.List.{list_any, position_from}
 use Rattle.std.proofs.lemmas.List.Folds.{list_any_more}
-use Rattle.rules.specs.Acceptance.{unstated, right_at, every, rules_of}
+use Rattle.rules.specs.Acceptance.{unstated, right_at, every, rule_of, rules_of}
 use Rattle.rules.specs.declared.rights.Right.{Right}
 use Rattle.rules.specs.declared.rights.Right.TheVariants.{Unstated, Permission}
 use Rattle.rules.specs.declared.rights.RightSlot.{RightSlot}
 use Rattle.rules.specs.declared.lists.RuleList.{RuleList}
+use Rattle.rules.specs.declared.lists.Slot.{Slot}
+use Rattle.rules.specs.declared.families.Rule.{Rule}
+use Rattle.rules.specs.Lowest.{lowest}
 use Rattle.sets.specs.Sets.{any}
 use Rattle.rules.proofs.RuleLists.{passes-at, passes-all, lowest-none, lowest-means}
 use Rattle.sets.proofs.Booleans.{clash}
@@ -42,6 +45,35 @@ unfolding has_right_line
 some-line rights sized =
     ap (list_any (λ (slot : RightSlot). ltb 0 (line_count slot.right))) (sym (take_all 6 rights (omega arith)))
     ∙ any-first (λ (slot : RightSlot). ltb 0 (line_count slot.right)) rights unstated 6 (omega arith)
+
+-- ---- the lowest rule without a policy
+
+-- it is the lowest that fails the test
+pub without-lowest : (n : ℕ) (rules : List Rule) → without_from n rules ≡ lowest has_policy n rules
+unfolding without_from lowest
+without-lowest n [] = refl
+without-lowest n (rule ∷ rules) = ap (λ (rest : Option ℕ). cond (has_policy rule) rest (Some n)) (without-lowest (suc n) rules)
+
+without-none : (rules : List Rule) → (without_from 1 rules ≡ None) ↔ (every has_policy rules ≡ true)
+without-none rules = rw (without-lowest 1 rules) (lowest-none has_policy 1 rules)
+
+-- what is counted from 0 is numbered from 1
+abbrev pub numbered : Option ℕ → Option ℕ
+numbered None = None
+numbered (Some i) = Some (i + 1)
+
+-- the first slot whose rule has none
+pub position-lowest : (n : ℕ) (slots : List Slot)
+    → numbered (position_from (λ (slot : Slot). not (has_policy slot.rule)) n slots) ≡ without_from (n + 1) (map rule_of slots)
+unfolding without_from
+position-lowest n [] = refl
+position-lowest n (slot ∷ slots) = go (has_policy slot.rule) (position-lowest (n + 1) slots)
+  where
+    go : (b : Bool) → numbered (position_from (λ (slot : Slot). not (has_policy slot.rule)) (n + 1) slots) ≡ without_from (n + 1 + 1) (map rule_of slots)
+        → numbered (cond (not b) (Some n) (position_from (λ (slot : Slot). not (has_policy slot.rule)) (n + 1) slots))
+        ≡ cond b (without_from (suc (n + 1)) (map rule_of slots)) (Some (n + 1))
+    go true h = rw (← add-one (n + 1)) h
+    go false h = refl
 
 -- ---- right lines, and a list
 
@@ -95,12 +127,12 @@ module _ (list : RuleList) where
   pub expressible-means : (without_policy list ≡ None) ↔ Expressible list
   unfolding without_policy
   expressible-means =
-      (by_right (has_right_line list.rights) refl, λ good. rw (none-stated good.no_right) ((lowest-none has_policy 1 (rules_of list)).1 (kinds-have good)))
+      (by_right (has_right_line list.rights) refl, λ good. rw (none-stated good.no_right) ((without-none (rules_of list)).1 (kinds-have good)))
     where
       by_right : (b : Bool) → has_right_line list.rights ≡ b → cond b (Some 0) (without_from 1 (rules_of list)) ≡ None → Expressible list
       by_right true e h = cc
       by_right false e h =
-          let have = (lowest-none has_policy 1 (rules_of list)).0 h in
+          let have = (without-none (rules_of list)).0 h in
           record { no_right = no_right e; kinds = λ i low. has-kind (get_or (rules_of list) i filler) (passes-at has_policy filler (rules_of list) have i low) }
 
   -- a rule is named, exactly where it is the lowest that has none, or 0 where there is a right line
@@ -115,7 +147,7 @@ module _ (list : RuleList) where
           let same : ◌≡◌ {A = ℕ} 0 n = cc in
           subst (HasNoLine list) same (right_line there.0 stated.0 there.1 stated.1)
       by_right false e h =
-          let there = (lowest-means has_policy filler 1 (rules_of list) n).0 h in
+          let there = (lowest-means has_policy filler 1 (rules_of list) n).0 (sym (without-lowest 1 (rules_of list)) ∙ h) in
           let same : suc there.0 ≡ n = omega (arith, there.1) in
           subst (HasNoLine list) same
           (lowest_rule there.0 (no_right e) there.2.within (λ kind. clash (kind-has kind) there.2.fails)
@@ -125,7 +157,7 @@ module _ (list : RuleList) where
       from (right_line kind permission low e) =
           rw (kind-stated kind low ((right-line-means (right_at list.rights kind)).1 (permission, e)))
       from (lowest_rule i none low other earlier) =
-          rw (none-stated none)
+          rw (none-stated none, without-lowest 1 (rules_of list))
           ((lowest-means has_policy filler 1 (rules_of list) (suc i)).1
           (i, omega arith, record { within = low; fails = not-has (has_policy (get_or (rules_of list) i filler)) refl; earlier = λ j h. kind-has (earlier j h) }))
         where

@@ -1,11 +1,10 @@
 -- 2026-06: "56 on writing, with the lowest rule that has no such line; a right line gives 56 with rule 0. Writing refuses in the order 40, 56,
 -- 18." Document 01: "A writer returns the text's length; bytes past it stay."
 -- Assumes nothing.
-use Rattle.std.specs.Prelude.{Bool, true, false, cond, ◌&&◌, List, ℕ, length, ltb, leb, Option, Some, None, Result, Ok, Err}
+use Rattle.std.specs.Prelude.{Bool, true, false, cond, ◌&&◌, List, [], ◌∷◌, ℕ, suc, length, ltb, leb, Option, Some, None, Result, Ok, Err}
 use Rattle.sets.specs.Sets.{any}
 use Rattle.forms.specs.Writing.{lent_if}
 use Rattle.rules.specs.Acceptance.{right_at, rules_of, list_accepted}
-use Rattle.rules.specs.Lowest.{lowest}
 use Rattle.rules.specs.declared.families.Rule.{Rule}
 use Rattle.rules.specs.declared.rights.RightSlot.{RightSlot}
 use Rattle.rules.specs.declared.lists.RuleList.{RuleList}
@@ -21,8 +20,9 @@ is_nothing None = true
 is_nothing (Some n) = false
 
 -- "the lowest rule that has no such line", the first of the rules being rule n
-abbrev pub without_from : ℕ → List Rule → Option ℕ
-without_from n rules = lowest has_policy n rules
+unfoldable pub without_from : ℕ → List Rule → Option ℕ
+without_from n [] = None
+without_from n (rule ∷ rules) = cond (has_policy rule) (without_from (suc n) rules) (Some n)
 
 -- "a right line"
 unfoldable pub has_right_line : List RightSlot → Bool

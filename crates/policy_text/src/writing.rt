@@ -1,15 +1,15 @@
 // Writing a rule list as policies: 40, then 56, then 18, or its text.
-ghost use Rattle.std.specs.Prelude.{◌≡◌};
+ghost use Rattle.std.specs.Prelude.{◌≡◌, map};
 ghost use Rattle.forms.specs.Writing.{Wrote};
-ghost use Rattle.rules.specs.Acceptance.{rules_of};
+ghost use Rattle.rules.specs.Acceptance.{rule_of, rules_of};
 ghost use Rattle.rule_text.specs.Lines.{list_text};
 ghost use Rattle.policy_text.specs.Lines.{policy_text, has_policy};
-ghost use Rattle.policy_text.specs.Writing.{by_number, has_right_line, without_policy, written_policies, lent_after_policies};
+ghost use Rattle.policy_text.specs.Writing.{by_number, has_right_line, without_from, without_policy, written_policies, lent_after_policies};
 
 use crate::lines;
 use crate::lines::{FORM_COUNT, FORMS, STARTS};
 use crate::refusals::WriteRefusal;
-use rules::{RightSlot, Rule, RuleList};
+use rules::{RightSlot, Rule, RuleList, Slot};
 
 #[tactic(auto, unfolding(crate::specs::Lines::has_policy))]
 fn has_policy(rule: Rule) -> bool
@@ -35,7 +35,15 @@ fn without_policy(list: &RuleList) -> Option<usize>
     if has_right_line(&list.rights) {
         return Some(0);
     }
-    rules::lowest_failing(list.used(), has_policy)
+    lowest_without(list.used())
+}
+
+// The lowest rule of the slots that has none, if there is one; rules are numbered from 1.
+fn lowest_without(slots: &[Slot]) -> Option<usize>
+    ensures { result ≡ without_from 1 (map rule_of slots.now) }
+{
+    let passed = slots.iter().position(|slot| !has_policy(slot.rule));
+    passed.map(|passed| passed + 1)
 }
 
 // Writes the policy of a rule at a place, and returns the place after it. A rule without one has no text.

@@ -1,6 +1,6 @@
 -- What the functions of a full test compute, as the definitions of the families have it.
 -- Assumes nothing.
-use mathlib.Core.Path.{◌≡◌, refl, sym, ap, ◌∙◌}
+use mathlib.Core.Path.{◌≡◌, refl, sym, ap, ap₂, ◌∙◌}
 use mathlib.Core.Bool.{Bool, true, false, not, ◌&&◌, ◌||◌, and-true, and-false, or-false}
 use mathlib.Core.List.{List}
 use Prim.Native.Nat.{ℕ, ◌+◌, ◌^◌, ◌<◌, ◌≤◌}
@@ -15,7 +15,7 @@ use Rattle.sets.proofs.Built.{member-set-of, set-of-same, set-of-with, set-of-no
 use Rattle.rules.specs.Breach.{first_broken}
 use Rattle.calendar.specs.Terms.{term_holds}
 use Rattle.calendar.specs.declared.terms.Term.{Term}
-use Rattle.rules.specs.Families.{time_context_at, dependency_at, word_at, has_role, session_at, is_active_for, is_active, inactive_at, users_who, history_separation_at, binding_of_duty_at}
+use Rattle.rules.specs.Families.{time_context_at, dependency_at, word_at, has_role, session_at, is_active_for, is_active, inactive_at, dynamic_separation_at, users_who, history_separation_at, binding_of_duty_at}
 use Rattle.rules.specs.declared.sessions.Session.{Session}
 use Rattle.std.specs.Prelude.{None}
 use Rattle.rules.proofs.Breach.{first-same, first-none, none_yet, first_more, broken_here}
@@ -74,6 +74,16 @@ module _ (sessions : List Session) (active : List ℕ) (r : ℕ) where
 
   pub is-active-for : (users u : ℕ) → u < 64 → users ≡ set_of 64 (λ u. is_active_for sessions active u r) → member users u ≡ is_active_for sessions active u r
   is-active-for users u l e = rw (e, member-set-of 64 u (λ u. is_active_for sessions active u r), lt-ltb u 64 l)
+
+-- no user is in both sets: the test of two sets of users
+unfoldable pub not_in_both : ℕ → ℕ → ℕ → Bool
+not_in_both a b u = not (member a u && member b u)
+
+pub in_both : (sessions : List Session) (active : List ℕ) (r q a b : ℕ) → a ≡ set_of 64 (λ u. is_active_for sessions active u r) → b ≡ set_of 64 (λ u. is_active_for sessions active u q) → first_broken 64 (not_in_both a b) ≡ first_broken 64 (dynamic_separation_at sessions active r q)
+unfolding not_in_both dynamic_separation_at
+in_both sessions active r q a b ea eb =
+    first-same 64 (not_in_both a b) (dynamic_separation_at sessions active r q)
+    (λ u l. ap₂ (λ (x y : Bool). not (x && y)) (is-active-for sessions active r a u l ea) (is-active-for sessions active q b u l eb))
 
 pub ruleset active_turns = (none_yet, first_more, broken_here, is-active-for)
 

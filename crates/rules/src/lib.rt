@@ -12,6 +12,6 @@ pub mod tests;
 pub use facts::Facts;
 pub use families::Rule;
 pub use lists::{RuleList, Slot};
-pub use lowest::{lowest_broken, lowest_failing};
+pub use lowest::lowest_broken;
 pub use rights::{Right, RightSlot};
 pub use sessions::Session;

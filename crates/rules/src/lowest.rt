@@ -11,7 +11,7 @@ use crate::families::Rule;
 use crate::lists::Slot;
 
 // Its number, if there is one; rules are numbered from 1.
-pub fn lowest_failing<F: Fn(Rule) -> bool + Drop>(slots: &[Slot], passes: F) -> Option<usize>
+fn lowest_failing<F: Fn(Rule) -> bool + Drop>(slots: &[Slot], passes: F) -> Option<usize>
     requires { F.IsAlwaysCallable passes }
     ensures { (test : Rule → Bool) → ((rule : Rule) (b : Bool) → F.post passes rule b → b ≡ test rule) → result ≡ lowest test 1 (map rule_of slots.now) }
 {
