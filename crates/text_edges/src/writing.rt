@@ -84,7 +84,10 @@ fn show(rt: &impl Print, written: Result<usize, Refused>) -> io::Result<()> {
                 number,
                 place: Some(place),
             },
-        ) => print!(rt; "place {place}, {number}"),
+        ) => {
+            print!(rt; "place {place}, ")?;
+            print!(rt; "{number}")
+        }
         Err(
             Refused {
                 number,
