@@ -82,3 +82,8 @@ read_state list text = cond (list_accepted list) (under_rules list (read_lines t
 abbrev pub outcome : Result State Refusal → Loading
 outcome (Ok s) = loaded s
 outcome (Err refusal) = refused (number_of refusal) (place_of refusal)
+
+-- the same, where the state is lent
+abbrev pub outcome_in : State → Result Unit Refusal → Loading
+outcome_in s (Ok done) = loaded s
+outcome_in s (Err refusal) = refused (number_of refusal) (place_of refusal)

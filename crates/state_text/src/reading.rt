@@ -2,9 +2,9 @@
 // (docs/DECISIONS.md, Forms).
 ghost use Rattle.std.specs.Prelude.{◌≡◌};
 ghost use Rattle.forms.specs.Refusals.{numbered};
-ghost use Rattle.enforcement.specs.States.{held_roles};
+ghost use Rattle.enforcement.specs.States.{fresh, held_roles};
 ghost use Rattle.state_text.specs.Refusals.{line_number};
-ghost use Rattle.state_text.specs.Reading.{outcome, read_line, read_lines, read_state};
+ghost use Rattle.state_text.specs.Reading.{outcome, outcome_in, read_line, read_lines, read_state};
 ghost use Rattle.state_text.specs.Parts.{next_of, checked_line};
 
 use crate::causes::{LineRefusal, Refusal};
@@ -29,19 +29,18 @@ pub fn read_state(list: RuleList, text: &[u8]) -> Result<State, Refusal>
     if !list.is_accepted() {
         return Err(Refusal::RulesNotAccepted);
     }
-    // The state stays where it was read: each move of it would take stack for one more.
-    let read = read_lines(text);
-    if let Ok(state) = &read {
-        if let Some(rule) = lowest_broken(&list, state) {
-            return Err(Refusal::RuleBroken { rule });
-        }
+    let mut state = State::fresh();
+    read_lines(text, &mut state)?;
+    if let Some(rule) = lowest_broken(&list, &state) {
+        return Err(Refusal::RuleBroken { rule });
     }
-    read
+    Ok(state)
 }
 
-// The state that the lines leave, or the first refusal with its line.
-fn read_lines(text: &[u8]) -> Result<State, Refusal>
-    ensures { outcome result ≡ read_lines text.now }
+// The lines, put into the fresh state, or the first refusal with its line. The state is lent: each move of it would take stack for one more.
+fn read_lines(text: &[u8], state: &mut State) -> Result<(), Refusal>
+    requires { state.old ≡ fresh }
+    ensures { outcome_in state.new result ≡ read_lines text.now }
 {
     if text.is_empty() {
         return Err(Refusal::Line {
@@ -49,25 +48,24 @@ fn read_lines(text: &[u8]) -> Result<State, Refusal>
             line: 1,
         });
     }
-    let mut state = State::fresh();
     let mut held = state.assigned;
     let mut last = None;
     let mut rest = text;
     let mut line: usize = 1;
     while !rest.is_empty() {
-        let read = next_line(rest, last, &state, &held);
+        let read = next_line(rest, last, state, &held);
         let Ok(parsed) = read else {
             return Err(Refusal::Line {
                 refusal: read.unwrap_err(),
                 line,
             });
         };
-        put_line(&mut state, &mut held, parsed.entry);
+        put_line(state, &mut held, parsed.entry);
         last = Some(parsed.entry.rank());
         rest = &rest[parsed.length..];
         line += 1;
     }
-    Ok(state)
+    Ok(())
 }
 
 // The line at the front of the text, where it is good after the lines before it, of which the last has the rank `last`.

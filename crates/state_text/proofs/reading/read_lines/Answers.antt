@@ -7,7 +7,7 @@ pub returns-then-is_empty : goal.returns-then-is_empty
 returns-then-is_empty c = none _ (none_left c.is_empty.ensures c.if-is_empty.true)
 
 pub loop-rest-init : goal.loop-rest-init
-loop-rest-init c = (start _ (some_left c.is_empty.ensures c.if-is_empty.false) c.fresh-state.ensures, fresh_held c.fresh-state.ensures)
+loop-rest-init c = (start _ (some_left c.is_empty.ensures c.if-is_empty.false) c.requires, fresh_held c.requires)
 
 pub returns-in_default : goal.returns-in_default
 returns-in_default c = bad-line c.loop-rest.invariant.0 (some_left c.is_empty-in-loop-rest.ensures c.loop-rest-test.true) c.next_line-read.ensures _ c.unwrap_err.ensures
