@@ -1,19 +1,19 @@
 // Steps run over a saved state: rules, saved text and steps in, answers and the new saved text out, so that one end hands its state to
 // the other.
-ghost use Rattle.std.specs.Prelude.{◌≡◌, ◌≢◌, true, None, Err, MatchResult, ◌≤◌, ◌<◌, length, take};
+ghost use Rattle.std.specs.Prelude.{◌≡◌, ◌≢◌, true, [], None, Err, MatchResult, ◌≤◌, ◌<◌, length, take};
 ghost use Rattle.forms.specs.Writing.{Wrote};
 ghost use Rattle.rules.specs.Acceptance.{list_accepted};
 ghost use Rattle.enforcement.specs.States.{fresh, state_accepted};
 ghost use Rattle.enforcement.specs.Reached.{Accepted};
 ghost use Rattle.rule_text.specs.Refusals.{refusal_number};
-ghost use Rattle.rule_text.specs.Reading.{read_lines, loaded_of, loaded_as};
+ghost use Rattle.rule_text.specs.Reading.{list_of, no_rights, read_lines, loaded_of, loaded_as};
 ghost use Rattle.rule_text.specs.Writing.{text_of};
 ghost use Rattle.state_text.specs.Reading.{read_state};
 ghost use Rattle.state_text.specs.Saving.{saved_text};
 ghost use Rattle.step_text.specs.Lines.{read_steps, bad_line};
 ghost use Rattle.step_text.specs.Answers.{answers_text};
 ghost use Rattle.step_text.specs.Running.{text_run};
-ghost use Rattle.texts.specs.SavedRuns.{state_under, load_texts, loaded_texts, rules_in, refused_report, report_of, ErrIsRefusal, lent_to, rules_copy_report, list_report, saved_report, state_in, copy_report, steps_under, saved_outcome, Ran};
+ghost use Rattle.texts.specs.SavedRuns.{holding, state_under, load_texts, loaded_texts, rules_in, refused_report, report_of, ErrIsRefusal, lent_to, rules_copy_report, list_report, saved_report, state_in, copy_report, steps_under, saved_outcome, Ran};
 
 use crate::responses::MOST_BYTES;
 use enforcement::State;
@@ -255,45 +255,52 @@ fn write_saved(state: State, out: &mut [u8]) -> Result<Written, Refused>
     })
 }
 
-// The rules, and the state under them.
+// The rules, and the state under them. It is kept apart, so that what it holds takes no stack while steps run.
+#[inline(never)]
 pub fn load(rules: &[u8], saved: &[u8]) -> LoadedTexts
     ensures { result ≡ loaded_texts (rules_in rules.now) (load_texts rules.now saved.now) }
 {
+    let mut loaded = nothing_read();
     match rule_text::read_rules(rules) {
-        Ok(list) => under_rules(list, saved),
+        Ok(list) => {
+            loaded.list = list;
+            under_rules(saved, &mut loaded);
+        }
         Err(BadLine { refusal, line }) => {
-            refused_texts(Text::Rules, refusal.number(), line, rule_text::no_rules())
+            loaded.text = Text::Rules;
+            loaded.number = refusal.number();
+            loaded.place = line;
+        }
+    }
+    loaded
+}
+
+// The state under the rules of the list, put in. It is kept apart from `load`, so that what it holds takes no stack while the rules are read.
+#[inline(never)]
+fn under_rules(saved: &[u8], loaded: &mut LoadedTexts)
+    requires { loaded.old ≡ loaded_texts loaded.old.list (holding loaded.old.list fresh) }
+    ensures { loaded.new ≡ loaded_texts loaded.old.list (state_under loaded.old.list (read_state loaded.old.list saved.now)) }
+{
+    match state_text::read_state(loaded.list, saved) {
+        Ok(state) => loaded.state = state,
+        Err(refusal) => {
+            loaded.text = Text::State;
+            loaded.number = refusal.number();
+            loaded.place = refusal.place();
         }
     }
 }
 
-// The state under the rules of a list. It is kept apart from `load`, so that what it holds takes no stack while the rules are read.
+// Nothing is read yet: the empty list and the fresh state. It is kept apart, so that what it holds takes no stack while the texts are read.
 #[inline(never)]
-fn under_rules(list: RuleList, saved: &[u8]) -> LoadedTexts
-    ensures { result ≡ loaded_texts list (state_under list (read_state list saved.now)) }
-{
-    match state_text::read_state(list, saved) {
-        Ok(state) => LoadedTexts {
-            text: Text::None,
-            number: 0,
-            place: 0,
-            list,
-            state,
-        },
-        Err(refusal) => refused_texts(Text::State, refusal.number(), refusal.place(), list),
-    }
-}
-
-// A text is refused: no state is loaded. It is kept apart, so that the fresh state takes no stack where one is read.
-#[inline(never)]
-fn refused_texts(text: Text, number: u64, place: usize, list: RuleList) -> LoadedTexts
-    ensures { result ≡ record { text = text; number = number; place = place; list = list; state = fresh } }
+fn nothing_read() -> LoadedTexts
+    ensures { result ≡ loaded_texts (list_of no_rights []) (holding (list_of no_rights []) fresh) }
 {
     LoadedTexts {
-        text,
-        number,
-        place,
-        list,
+        text: Text::None,
+        number: 0,
+        place: 0,
+        list: rule_text::no_rules(),
         state: State::fresh(),
     }
 }
