@@ -57,20 +57,20 @@ without-lowest n (rule ∷ rules) = ap (λ (rest : Option ℕ). cond (has_policy
 without-none : (rules : List Rule) → (without_from 1 rules ≡ None) ↔ (every has_policy rules ≡ true)
 without-none rules = rw (without-lowest 1 rules) (lowest-none has_policy 1 rules)
 
--- what is counted from 0 is numbered from 1
-abbrev pub numbered : Option ℕ → Option ℕ
-numbered None = None
-numbered (Some i) = Some (i + 1)
+-- what is counted from 0 is from_one from 1
+abbrev pub from_one : Option ℕ → Option ℕ
+from_one None = None
+from_one (Some i) = Some (i + 1)
 
 -- the first slot whose rule has none
 pub position-lowest : (n : ℕ) (slots : List Slot)
-    → numbered (position_from (λ (slot : Slot). not (has_policy slot.rule)) n slots) ≡ without_from (n + 1) (map rule_of slots)
+    → from_one (position_from (λ (slot : Slot). not (has_policy slot.rule)) n slots) ≡ without_from (n + 1) (map rule_of slots)
 unfolding without_from
 position-lowest n [] = refl
 position-lowest n (slot ∷ slots) = go (has_policy slot.rule) (position-lowest (n + 1) slots)
   where
-    go : (b : Bool) → numbered (position_from (λ (slot : Slot). not (has_policy slot.rule)) (n + 1) slots) ≡ without_from (n + 1 + 1) (map rule_of slots)
-        → numbered (cond (not b) (Some n) (position_from (λ (slot : Slot). not (has_policy slot.rule)) (n + 1) slots))
+    go : (b : Bool) → from_one (position_from (λ (slot : Slot). not (has_policy slot.rule)) (n + 1) slots) ≡ without_from (n + 1 + 1) (map rule_of slots)
+        → from_one (cond (not b) (Some n) (position_from (λ (slot : Slot). not (has_policy slot.rule)) (n + 1) slots))
         ≡ cond b (without_from (suc (n + 1)) (map rule_of slots)) (Some (n + 1))
     go true h = rw (← add-one (n + 1)) h
     go false h = refl

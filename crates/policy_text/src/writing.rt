@@ -38,7 +38,7 @@ fn without_policy(list: &RuleList) -> Option<usize>
     lowest_without(list.used())
 }
 
-// The lowest rule of the slots that has none, if there is one; rules are numbered from 1.
+// The lowest rule of the slots that has no policy, if there is one; rules are numbered from 1.
 fn lowest_without(slots: &[Slot]) -> Option<usize>
     ensures { result ≡ without_from 1 (map rule_of slots.now) }
 {

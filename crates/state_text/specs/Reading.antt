@@ -83,7 +83,7 @@ abbrev pub outcome : Result State Refusal → Loading
 outcome (Ok s) = loaded s
 outcome (Err refusal) = refused (number_of refusal) (place_of refusal)
 
--- the same, where the state is lent
+-- the same of the lines alone, which are read into a state that is lent
 abbrev pub outcome_in : State → Result Unit Refusal → Loading
 outcome_in s (Ok done) = loaded s
 outcome_in s (Err refusal) = refused (number_of refusal) (place_of refusal)

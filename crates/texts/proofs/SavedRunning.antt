@@ -74,16 +74,17 @@ module _ (list : RuleList) (text : List ℕ) where
   unfolding state_under loaded_texts
   state-loaded s e = rw (← e)
 
+  -- and put into the texts that hold the list and the fresh state
   module _ (x : LoadedTexts) (q : x ≡ loaded_texts list (holding list fresh)) where
     pub put-refused : (number place : ℕ) → refused number place ≡ read_state list text
         → ◌≡◌ {A = LoadedTexts} (record { text = Text.State; number = number; place = place; list = x.list; state = x.state }) (loaded_texts list (state_under list (read_state list text)))
     unfolding state_under loaded_texts
-    put-refused number place e = rw (q, ← e)
+    put-refused number place e = rw q (state-refused number place e)
 
     pub put-loaded : (s : State) → loaded s ≡ read_state list text
         → ◌≡◌ {A = LoadedTexts} (record { text = x.text; number = x.number; place = x.place; list = x.list; state = s }) (loaded_texts list (state_under list (read_state list text)))
     unfolding state_under loaded_texts
-    put-loaded s e = rw (q, ← e)
+    put-loaded s e = rw q (state-loaded s e)
 
 -- what the rules' loading says of the texts
 module _ (saved : List ℕ) (r : LoadedRules) where
